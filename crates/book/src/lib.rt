@@ -1,0 +1,2 @@
+// The plan book: jobs, checks and bounds, as a crew writes them down.
+pub mod parts;
