@@ -1,0 +1,1 @@
+// The tables that keep the rules of a plan are its strategies.
