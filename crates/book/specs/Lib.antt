@@ -1,3 +1,5 @@
 pub mod Labels
 pub mod Plain
 pub mod Sound
+pub mod Single
+pub mod Held

@@ -138,23 +138,23 @@ job-refusal b l = first-row (row (full-jobs b) JobsFull ∷ row (names-unknown b
 abbrev pub check-refusal : Plain → Label → Option Refusal
 check-refusal b l =
     first-row (
-      row (full-jobs b) JobsFull
-      ∷ row (leb 4 (checks b)) ChecksFull
-      ∷ row (names-unknown b l) UnknownCheck
-      ∷ row (both-ways l) BothWays
-      ∷ row (part-missing b l) PartMissing
-      ∷ []
+    row (full-jobs b) JobsFull
+    ∷ row (leb 4 (checks b)) ChecksFull
+    ∷ row (names-unknown b l) UnknownCheck
+    ∷ row (both-ways l) BothWays
+    ∷ row (part-missing b l) PartMissing
+    ∷ []
     )
 
 abbrev pub bound-refusal : Plain → Bound → Option Refusal
 bound-refusal b l =
     first-row (
-      row (leb (length (b .jobs)) (l .first) || leb (length (b .jobs)) (l .second)) UnknownJob
-      ∷ row (leb 4321 (natAbs (l .minutes))) MinutesBeyond
-      ∷ row (eqb (l .first) (l .second)) SameJob
-      ∷ row (exclude (job b (l .first) .label) (job b (l .second) .label)) Exclusive
-      ∷ row (leb 64 (length (b .bounds))) BoundsFull
-      ∷ []
+    row (leb (length (b .jobs)) (l .first) || leb (length (b .jobs)) (l .second)) UnknownJob
+    ∷ row (leb 4321 (natAbs (l .minutes))) MinutesBeyond
+    ∷ row (eqb (l .first) (l .second)) SameJob
+    ∷ row (exclude (job b (l .first) .label) (job b (l .second) .label)) Exclusive
+    ∷ row (leb 64 (length (b .bounds))) BoundsFull
+    ∷ []
     )
 
 abbrev pub withdraw-refusal : Plain → ℕ → Option Refusal

@@ -1,2 +1,3 @@
 // The plan book: jobs, checks and bounds, as a crew writes them down.
+pub mod keeping;
 pub mod parts;
