@@ -3,3 +3,4 @@ pub mod Plain
 pub mod Sound
 pub mod Single
 pub mod Held
+pub mod Done

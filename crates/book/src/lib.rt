@@ -1,3 +1,4 @@
 // The plan book: jobs, checks and bounds, as a crew writes them down.
 pub mod keeping;
+pub mod labels;
 pub mod parts;
