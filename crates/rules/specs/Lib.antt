@@ -1,1 +1,4 @@
+pub mod Rows
 pub mod Rules
+pub mod Single
+pub mod Tables

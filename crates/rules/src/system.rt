@@ -40,7 +40,8 @@ pub trait RuleSystem {
 pub trait WithOrigins: RuleSystem {
     ghost origins: { Self → List Origin };
 
-    // The origin of rule `r`.
+    // The origin of rule `r`: every rule has one.
     fn origin(&self, r: usize) -> Option<Origin>
-        ensures { λ o. ⌜ o ≡ item (origins (now (self .entry))) r ⌝ };
+        ensures origin { λ o. ⌜ o ≡ item (origins (now (self .entry))) r ⌝ }
+        ensures each { λ _. ⌜ length (origins (now (self .entry))) ≡ length (Self·RuleSystem .meaning (now (self .entry)) .rules) ⌝ };
 }
