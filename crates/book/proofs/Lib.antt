@@ -1,2 +1,5 @@
 pub mod Bits
 pub mod Tests
+pub mod Checks
+pub mod Rows
+pub mod Refused
