@@ -1,2 +1,3 @@
 pub mod Grades
 pub mod Systems
+pub mod Theorems

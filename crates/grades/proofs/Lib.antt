@@ -1,0 +1,12 @@
+pub mod Bits
+pub mod Core
+pub mod Lists
+pub mod Tests
+pub mod Props
+pub mod Strategies
+pub mod Single
+pub mod Strong
+pub mod Weak
+pub mod Dynamic
+pub mod Limits
+pub mod Runs
