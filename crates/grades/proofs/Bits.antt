@@ -1,11 +1,10 @@
--- Bits of a number cut to its lowest, and of two numbers joined.
-use mathlib.Core.Path.{_≡_, refl, sym, ap, _∙_}
-use Prim.Native.Nat.{ℕ, zero, suc, _+_, _*_, _/_, _%_, _^_, _<_, _≤_, max}
-use native.Mathlib.Nat.{pow-suc, div-one, div-eq-of-lt}
+-- Bits of a number cut to its lowest.
+use mathlib.Core.Path.{_≡_, sym, ap, _∙_}
+use Prim.Native.Nat.{ℕ, zero, suc, _+_, _*_, _/_, _%_, _^_, _<_}
+use native.Mathlib.Nat.{pow-suc, div-one}
 use native.Mathlib.Numerals.{one-add}
 use native.Mathlib.Omega.{arith}
 use lib.Arith.{mod-mul}
-use lib.Bits.{bitOr, or-step, or-shr}
 use Rattle.std.proofs.shelf.Bits.{shr-shr, pow-pos}
 use Rattle.book.specs.Labels.{bit}
 
@@ -14,16 +13,6 @@ bit-zero x = ap (λ n. n % 2) (div-one x)
 
 bit-suc : (x k : ℕ) → bit x (suc k) ≡ bit (x / 2) k
 bit-suc x k = ap (λ n. n % 2) (ap (λ n. x / 2 ^ n) (sym (one-add k)) ∙ sym (shr-shr x 1 k))
-
--- 0 has no bit
-pub zero-bit : (k : ℕ) → bit 0 k ≡ 0
-zero-bit k = let p : 0 < 2 ^ k = pow-pos k in let z : 0 / 2 ^ k ≡ 0 = div-eq-of-lt p in ap (λ n. n % 2) z
-
-or-low : (a b : ℕ) → bitOr a b % 2 ≡ max (a % 2) (b % 2)
-or-low a b = omega (arith, or-step a b)
-
-pub bit-or : (a b k : ℕ) → bit (bitOr a b) k ≡ max (bit a k) (bit b k)
-bit-or a b k = ap (λ n. n % 2) (or-shr a b k) ∙ or-low (a / 2 ^ k) (b / 2 ^ k)
 
 cut : (x k : ℕ) → x % 2 ^ suc k ≡ (x / 2 % 2 ^ k) * 2 + x % 2
 cut x k = ap (λ n. x % n) (pow-suc 2 k) ∙ mod-mul x {m = 2 ^ k} {c = 2} (pow-pos k) (omega arith)

@@ -14,12 +14,13 @@ use Rattle.std.proofs.shelf.Counted.{getD-map-counting, length-map-counting}
 use Rattle.book.specs.Labels.{bit, names, Names}
 use Rattle.book.specs.Plain.{Plain, job, checks, cases, asking, Case, Done}
 use Rattle.book.specs.Sound.{Sound}
+use Rattle.book.specs.Done.{done}
 use Rattle.rules.specs.Rules.{Keeps, Least, at}
 use Rattle.grades.specs.Grades.{Minutes, delay, Counts, Agrees, Dynamic, Earliest}
-use Rattle.grades.specs.Systems.{place, done, dynamic-system, reads, From-zero}
+use Rattle.grades.specs.Systems.{place, dynamic-system, reads, From-zero}
 use Rattle.grades.specs.Theorems.{Alike, Dynamic-theorem, Dynamic-tables, Grades-in-order}
 use Rattle.grades.proofs.Core.{Tells, look, settled, waiting}
-use Rattle.grades.proofs.Tests.{dec-of, dec-done, done-decides, names-decides}
+use Rattle.book.proofs.Tests.{dec-of, dec-done, done-decides, names-decides}
 use Rattle.grades.proofs.Strategies.{start-done, check-done, strategy-of, holding-of, lower-holding, at-lowered}
 use Rattle.grades.proofs.Props.{Holding, Dynamically, Waiting, delay-some, keeps-dynamically, dynamically-keeps}
 

@@ -27,7 +27,8 @@ use Rattle.grades.specs.Systems.{unknown-rule, unknown-between, unknown-from, 
 use Rattle.grades.proofs.Core.{Tells, Waits}
 use Rattle.grades.proofs.Lists.{Every, Some-of, every-at, at-every, some-at, at-some, every-append, every-left, every-right, every-below, below-every}
 use Rattle.grades.proofs.Lists.{some-below, below-some, every-when, when-every, some-when, when-some, every-map, map-every, every-like}
-use Rattle.grades.proofs.Tests.{Due, due-decides, names-decides, apart-decides, both-do-decides, tells-apart-decides}
+use Rattle.book.proofs.Tests.{names-decides}
+use Rattle.grades.proofs.Tests.{Due, due-decides, apart-decides, both-do-decides, tells-apart-decides}
 
 -- an outcome is never known in the minute of its check
 pub delay-some : (b : Plain) (c : ℕ) → 1 ≤ delay b c

@@ -15,14 +15,14 @@ use Rattle.book.specs.Plain.{Plain, job, bound, asking, Case, Done}
 use Rattle.book.specs.Sound.{Sound}
 use Rattle.rules.specs.Rules.{at}
 use Rattle.grades.specs.Grades.{Minutes, Within, Counts, Strategy}
-use Rattle.grades.proofs.Bits.{zero-bit}
+use Rattle.book.proofs.Bits.{bit-none}
 use Rattle.grades.proofs.Props.{Holding}
 
 -- `start` is done in every case
 pub start-done : (b : Plain) → Sound b → (s : ℕ) → Done b s 0
 start-done b sound s c h = (
-  λ w. absurd (omega (arith, ap (λ l. bit (l .yes) c) (sound .start-free), zero-bit c)),
-  λ w. absurd (omega (arith, ap (λ l. bit (l .no) c) (sound .start-free), zero-bit c)),
+  λ w. absurd (omega (arith, ap (λ l. bit (l .yes) c) (sound .start-free), bit-none c)),
+  λ w. absurd (omega (arith, ap (λ l. bit (l .no) c) (sound .start-free), bit-none c)),
 )
 
 -- a case that does a job does the checks that its label names

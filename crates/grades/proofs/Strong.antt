@@ -18,7 +18,8 @@ use Rattle.rules.specs.Rules.{Keeps, Kept, Least, at, no-rule}
 use Rattle.grades.specs.Grades.{Minutes, Keeps-bound, Strong, Earliest}
 use Rattle.grades.specs.Systems.{Hold, holds, rule-of, strong-system, strong-reads}
 use Rattle.grades.specs.Theorems.{Alike, Strong-theorem, Strong-tables}
-use Rattle.grades.proofs.Bits.{bit-or, bit-cut}
+use Rattle.book.proofs.Bits.{bit-or}
+use Rattle.grades.proofs.Bits.{bit-cut}
 use Rattle.grades.proofs.Lists.{every-at, at-every, every-like, every-map, map-every}
 use Rattle.grades.proofs.Tests.{Due}
 use Rattle.grades.proofs.Props.{Here, Holding, holding, held-all, kept-hold, hold-kept}

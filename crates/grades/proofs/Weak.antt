@@ -10,12 +10,13 @@ use Rattle.std.specs.Iters.{counting}
 use Rattle.std.proofs.shelf.Counted.{getD-map-counting, length-map-counting}
 use Rattle.book.specs.Plain.{Plain, cases, Case, Done}
 use Rattle.book.specs.Sound.{Sound}
+use Rattle.book.specs.Done.{done}
 use Rattle.rules.specs.Rules.{Keeps, Kept, Least, at, no-rule}
 use Rattle.grades.specs.Grades.{Minutes, Counts, Weak, Earliest}
-use Rattle.grades.specs.Systems.{done, weak-system, weak-rules, strong-reads, weak-reads}
+use Rattle.grades.specs.Systems.{weak-system, weak-rules, strong-reads, weak-reads}
 use Rattle.grades.specs.Theorems.{Alike-in, Weak-theorem, Weak-tables}
 use Rattle.grades.proofs.Lists.{every-at, at-every}
-use Rattle.grades.proofs.Tests.{done-decides}
+use Rattle.book.proofs.Tests.{done-decides}
 use Rattle.grades.proofs.Props.{Holding, weak-holding, holding-weak}
 use Rattle.grades.proofs.Strategies.{start-done, strategy-of, holding-of, lower-holding}
 use Rattle.grades.proofs.Single.{Single, lowered, lowered-keeps, lowered-zero, least-zero}

@@ -6,10 +6,10 @@ use Prim.Native.Nat.{ℕ, zero, suc, _+_, _*_, _<_}
 use lib.Dec.{eqb}
 use lib.IntN.{ℤ, pos, negsuc, negℤ}
 use lib.ListN.{length}
-use Rattle.book.specs.declared.parts.Label.{Label}
 use Rattle.book.specs.declared.parts.Kind.{Kind}
 use Rattle.book.specs.declared.parts.Kind.the-variants.{Least, Most}
-use Rattle.book.specs.Labels.{bit, wants-yes, wants-no, names, all-below}
+use Rattle.book.specs.Labels.{bit, names}
+use Rattle.book.specs.Done.{done}
 use Rattle.book.specs.Plain.{Plain, job, bound, checks, cases, asking}
 use Rattle.rules.specs.declared.parts.Alternative.{Alternative}
 use Rattle.rules.specs.declared.parts.Origin.{Origin}
@@ -26,16 +26,6 @@ each-below (suc n) f = each-below n f ++ f n
 abbrev pub when : {A : Type 0} → Bool → List A → List A
 when true xs = xs
 when false xs = []
-
--- whether a case meets a label, and so does a job
-abbrev pub meets-at : Label → ℕ → ℕ → Bool
-meets-at l s k = cond (wants-yes l k) (eqb (bit s k) 1) true && cond (wants-no l k) (eqb (bit s k) 0) true
-
-abbrev pub meets : Label → ℕ → Bool
-meets l s = all-below 8 (meets-at l s)
-
-abbrev pub done : Plain → ℕ → ℕ → Bool
-done b s j = meets (job b j .label) s
 
 -- One job held back by another: it comes at least so many minutes after it. The origin says why.
 pub record Hold : Type 0 where
