@@ -1,0 +1,8 @@
+use mathlib.Core.Path.{_≡_}
+use mathlib.Core.List.{_++_}
+use Rattle.std.specs.Of.Vec.{vec-items}
+use Rattle.sheet.specs.Sheet.{cases-lines, name-of}
+use Rattle.sheet.proofs.lines.put_cases.Given as given
+
+abbrev pub Inv-loop-case : given.InvT-loop-case
+Inv-loop-case l = vec-items (l .page) ≡ vec-items (l .entry .page) ++ cases-lines (name-of (l .text) (l .places)) (l .jobs) (l .minutes) (l .case)

@@ -1,0 +1,8 @@
+use mathlib.Core.Path.{_≡_}
+use mathlib.Core.List.{_++_}
+use Rattle.std.specs.Of.Vec.{vec-items}
+use Rattle.sheet.specs.Sheet.{job-lines, name-of}
+use Rattle.sheet.proofs.lines.put_jobs.Given as given
+
+abbrev pub Inv-loop-job : given.InvT-loop-job
+Inv-loop-job l = vec-items (l .page) ≡ vec-items (l .entry .page) ++ job-lines (name-of (l .text) (l .places)) (l .row) (l .job)

@@ -1,0 +1,4 @@
+// From a plan text to its printed sheet.
+pub mod grade;
+mod lines;
+pub mod names;
