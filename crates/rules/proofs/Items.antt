@@ -1,12 +1,14 @@
 -- Reading a list by `item`, which has none past the end, and by `getD`, which has a default there.
-use mathlib.Core.Path.{_≡_, refl, sym, ap, _∙_}
-use mathlib.Core.List.{List, [], _∷_, map}
+use mathlib.Core.Path.{_≡_, refl, ap, _∙_}
+use mathlib.Core.List.{List, [], _∷_}
 use Prim.Native.Nat.{ℕ, zero, suc, _≤_, _<_}
 use native.Mathlib.Omega.{arith}
 use lib.ListN.{length, getD}
-use Rattle.std.specs.declared.option.Option.{Option}
 use Rattle.std.specs.declared.option.Option.the-variants.{Some, None}
-use Rattle.rules.specs.Rules.{item, Rule, System, rule, alternative, held-at, held-of, count-at, count-of, alternative-at, alternative-of}
+use Rattle.rules.specs.Rules.{item, System, rule, alternative, held-at, held-of, count-at, count-of, alternative-at, alternative-of}
+
+pub some-same : {X : Type 0} {x y : X} → Some x ≡ Some y → x ≡ y
+some-same e = cc
 
 -- below the end there is an item, whatever the default
 pub item-within : {X : Type 0} (xs : List X) (i : ℕ) (d : X) → i < length xs → item xs i ≡ Some (getD xs i d)

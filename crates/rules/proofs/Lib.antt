@@ -1,3 +1,9 @@
+pub mod Asked
+pub mod Bars
 pub mod Items
+pub mod Peeling
 pub mod Pushes
+pub mod Record
 pub mod RowRules
+pub mod Steps
+pub mod Walks

@@ -1,5 +1,5 @@
 -- The rules of a list of rows, one by one.
-use mathlib.Core.Path.{_≡_, refl, sym, ap, _∙_}
+use mathlib.Core.Path.{_≡_, ap, _∙_}
 use mathlib.Core.List.{List, map}
 use Prim.Native.Nat.{ℕ, min, _≤_, _<_}
 use native.Mathlib.Omega.{arith}
@@ -8,7 +8,7 @@ use Rattle.std.proofs.shelf.Lists.{getD-map, getD-take, length-map, length-take
 use Rattle.std.specs.declared.option.Option.the-variants.{Some, None}
 use Rattle.rules.specs.declared.rows.Step.{Step}
 use Rattle.rules.specs.declared.rows.Row.{Row}
-use Rattle.rules.specs.Rules.{item, System, rule, alternative, held-at, held-of, count-at, count-of, alternative-at, alternative-of, no-rule, no-alternative}
+use Rattle.rules.specs.Rules.{item, rule, alternative, held-at, held-of, count-at, count-of, alternative-at, alternative-of, no-rule, no-alternative}
 use Rattle.rules.specs.Rows.{step-of, rule-of, system-of}
 use Rattle.rules.proofs.Items.{item-within, item-past}
 

@@ -97,3 +97,7 @@ pub record Keeps (m : System) (table : List ℕ) : Type 0 where
 pub record Least (m : System) (table : List ℕ) : Type 0 where
   pub keeps : Keeps m table
   pub least : (other : List ℕ) → Keeps m other → (place : ℕ) → at table place ≤ at other place
+
+-- no table keeps all rules
+abbrev pub None-keeps : System → Type 0
+None-keeps m = (table : List ℕ) → Keeps m table → ⊥

@@ -4,3 +4,4 @@ pub mod rows;
 pub mod system;
 pub mod table;
 pub mod tables;
+pub mod theorems;

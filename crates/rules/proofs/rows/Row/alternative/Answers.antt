@@ -1,7 +1,7 @@
 use mathlib.Core.Path.{_≡_, sym, ap, _∙_}
 use native.Mathlib.Omega.{arith}
 use borrow.Author.Needs.{needs}
-use Prim.Native.Nat.{_<_, _≤_, min}
+use Prim.Native.Nat.{_<_, min}
 use lib.ListN.{length, getD}
 use lib.IntN.{ℤ, pos}
 use mir.Val.{toZ, ofZ, SFits}

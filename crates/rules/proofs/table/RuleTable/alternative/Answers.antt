@@ -1,4 +1,4 @@
-use mathlib.Core.Path.{_≡_, sym, ap, _∙_}
+use mathlib.Core.Path.{sym, ap, _∙_}
 use Rattle.rules.specs.Rules.{alternative-of}
 use Rattle.rules.proofs.Pushes.{table-item, table-none}
 use Rattle.rules.proofs.table.RuleTable.alternative.Needs as need

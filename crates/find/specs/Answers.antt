@@ -1,0 +1,37 @@
+-- What `find` and `find_or_loop` answer.
+use mathlib.Core.Path.{_≡_}
+use mathlib.Core.Logic.{_↔_}
+use mathlib.Core.List.{List, _++_, map}
+use Prim.Native.Nat.{ℕ, _≤_, _<_}
+use lib.ListN.{length, drop, getD}
+use lib.IntN.{ℤ, pos}
+use Rattle.std.specs.declared.result.Result.{Result}
+use Rattle.std.specs.declared.result.Result.the-variants.{Ok, Err}
+use Rattle.rules.specs.Rules.{System, Keeps, Least, None-keeps}
+use Rattle.find.specs.declared.answers.Found.{Found}
+use Rattle.find.specs.declared.answers.Found.the-variants.{Table, NoTable}
+use Rattle.find.specs.declared.answers.Refusal.{Refusal}
+use Rattle.find.specs.declared.answers.Refusal.the-variants.{MinutesShort, LoopShort}
+
+-- the numbers of the refusals
+abbrev pub number : Refusal → ℕ
+number MinutesShort = 12
+number LoopShort = 13
+
+-- the least table stands first among the minutes, and the rest of them is as before
+abbrev pub Written : System → List ℤ → List ℤ → Type 0
+Written m before after = (table : List ℕ) × Least m table × (after ≡ map pos table ++ drop (m .places) before)
+
+-- What `find` answers: the minutes are too few, or a table keeps the rules, or none does. Each answer says which, so each comes
+-- exactly then.
+abbrev pub Finds : System → List ℤ → List ℤ → Result Found Refusal → Type 0
+Finds m before after (Ok Table) = (m .places ≤ length before) × Written m before after
+Finds m before after (Ok NoTable) = (m .places ≤ length before) × None-keeps m × (after ≡ before)
+Finds m before after (Err e) = (e ≡ MinutesShort) × (length before < m .places) × (after ≡ before)
+
+-- so each answer comes exactly when it is said to
+abbrev pub Exact : Type 0
+Exact = (m : System) (before after : List ℤ) (r : Result Found Refusal) → Finds m before after r →
+    ((length before < m .places) ↔ (r ≡ Err MinutesShort))
+    × (((m .places ≤ length before) × ∥ ((table : List ℕ) × Keeps m table) ∥₁) ↔ (r ≡ Ok Table))
+    × (((m .places ≤ length before) × None-keeps m) ↔ (r ≡ Ok NoTable))

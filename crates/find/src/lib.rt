@@ -1,0 +1,14 @@
+// The least table that keeps the rules of a rule system, or that there is none, and a loop of rules that shows why.
+mod answers;
+mod asking;
+mod marks;
+mod rounds;
+mod searching;
+mod tables;
+mod theorems;
+
+pub use answers::Explained;
+pub use answers::Found;
+pub use answers::Refusal;
+pub use tables::find;
+pub use theorems::answers_exactly;
