@@ -24,7 +24,8 @@ use Rattle.rules.specs.declared.parts.Origin.the-variants.{Bound}
 use Rattle.rules.specs.Rules.{Rule, Sound-alternative, Sound-rule, no-alternative, no-rule}
 use Rattle.rules.specs.Rules as rules
 use Rattle.grades.specs.Grades.{delay}
-use Rattle.grades.specs.Systems.{Hold, each-below, when, due, hold-of, bound-hold, start-hold, check-hold}
+use Rattle.grades.specs.declared.holds.Hold.{Hold}
+use Rattle.grades.specs.Systems.{each-below, when, due, hold-of, bound-hold, start-hold, check-hold}
 use Rattle.grades.specs.Systems.{bound-holds, start-holds, check-holds-of, check-holds}
 use Rattle.grades.specs.Systems.{holds, holds-in, rule-of, weak-rules, case-rules, place, telling, tells-apart, both-do}
 use Rattle.grades.specs.Systems.{unknown-rule, unknown-between, unknown-from, unknown-rules, dynamic-rules, strong-system, weak-system, dynamic-system}

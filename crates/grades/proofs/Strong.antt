@@ -16,7 +16,7 @@ use Rattle.rules.specs.declared.parts.Origin.{Origin}
 use Rattle.rules.specs.declared.parts.Origin.the-variants.{Bound, Start, Check}
 use Rattle.rules.specs.Rules.{Keeps, Kept, Least, at, no-rule}
 use Rattle.grades.specs.Grades.{Minutes, Keeps-bound, Strong, Earliest}
-use Rattle.grades.specs.Systems.{Hold, holds, rule-of, strong-system, strong-reads}
+use Rattle.grades.specs.Systems.{holds, rule-of, strong-system, strong-reads}
 use Rattle.grades.specs.Theorems.{Alike, Strong-theorem, Strong-tables}
 use Rattle.book.proofs.Bits.{bit-or}
 use Rattle.grades.proofs.Bits.{bit-cut}

@@ -15,6 +15,7 @@ use Rattle.rules.specs.declared.parts.Alternative.{Alternative}
 use Rattle.rules.specs.declared.parts.Origin.{Origin}
 use Rattle.rules.specs.declared.parts.Origin.the-variants.{Bound, Start, Check}
 use Rattle.rules.specs.Rules.{Rule, System, at}
+use Rattle.grades.specs.declared.holds.Hold.{Hold}
 use Rattle.grades.specs.Grades.{Minutes, delay}
 
 -- what each number below n gives, one after another
@@ -26,13 +27,6 @@ each-below (suc n) f = each-below n f ++ f n
 abbrev pub when : {A : Type 0} → Bool → List A → List A
 when true xs = xs
 when false xs = []
-
--- One job held back by another: it comes at least so many minutes after it. The origin says why.
-pub record Hold : Type 0 where
-  pub held : ℕ
-  pub by : ℕ
-  pub minutes : ℤ
-  pub origin : Origin
 
 -- at least m holds back the second job, by the first plus m; at most m holds back the first, by the second minus m
 abbrev pub hold-of : Kind → ℕ → ℕ → ℤ → Origin → Hold
