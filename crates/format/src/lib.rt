@@ -1,0 +1,3 @@
+// The plan file: what a plan text is, and what a text gives, line by line.
+pub mod parts;
+pub mod theorems;
