@@ -1,0 +1,3 @@
+pub mod Logs
+pub mod Law
+pub mod Standing
