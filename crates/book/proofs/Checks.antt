@@ -55,10 +55,10 @@ place-push [] ys c h = absurd (omega arith)
 place-push (x ∷ xs) ys c h = by (is-check (x .check) c) (place-push xs ys c) h
   where
     by :
-      (t : Bool)
-      → (place-of-check xs c < length xs → place-of-check (xs ++ ys) c ≡ place-of-check xs c)
-      → cond t 0 (suc (place-of-check xs c)) < suc (length xs)
-      → cond t 0 (suc (place-of-check (xs ++ ys) c)) ≡ cond t 0 (suc (place-of-check xs c))
+        (t : Bool)
+        → (place-of-check xs c < length xs → place-of-check (xs ++ ys) c ≡ place-of-check xs c)
+        → cond t 0 (suc (place-of-check xs c)) < suc (length xs)
+        → cond t 0 (suc (place-of-check (xs ++ ys) c)) ≡ cond t 0 (suc (place-of-check xs c))
     by true f l = refl
     by false f l = ap suc (f (omega arith))
 
@@ -67,10 +67,10 @@ place-past [] ys c h = omega arith
 place-past (x ∷ xs) ys c h = by (is-check (x .check) c) (place-past xs ys c) h
   where
     by :
-      (t : Bool)
-      → (length xs ≤ place-of-check xs c → place-of-check (xs ++ ys) c ≡ length xs + place-of-check ys c)
-      → suc (length xs) ≤ cond t 0 (suc (place-of-check xs c))
-      → cond t 0 (suc (place-of-check (xs ++ ys) c)) ≡ suc (length xs) + place-of-check ys c
+        (t : Bool)
+        → (length xs ≤ place-of-check xs c → place-of-check (xs ++ ys) c ≡ length xs + place-of-check ys c)
+        → suc (length xs) ≤ cond t 0 (suc (place-of-check xs c))
+        → cond t 0 (suc (place-of-check (xs ++ ys) c)) ≡ suc (length xs) + place-of-check ys c
     by true f l = absurd (omega arith)
     by false f l = let e = f (omega arith) in omega arith
 
@@ -84,10 +84,10 @@ place-found [] c d h = absurd (omega arith)
 place-found (x ∷ xs) c d h = by (is-check (x .check) c) refl (place-found xs c d) h
   where
     by :
-      (t : Bool)
-      → is-check (x .check) c ≡ t
-      → (place-of-check xs c < length xs → getD xs (place-of-check xs c) d .check ≡ Some c)
-      → cond t 0 (suc (place-of-check xs c)) < suc (length xs)
-      → getD (x ∷ xs) (cond t 0 (suc (place-of-check xs c))) d .check ≡ Some c
+        (t : Bool)
+        → is-check (x .check) c ≡ t
+        → (place-of-check xs c < length xs → getD xs (place-of-check xs c) d .check ≡ Some c)
+        → cond t 0 (suc (place-of-check xs c)) < suc (length xs)
+        → getD (x ∷ xs) (cond t 0 (suc (place-of-check xs c))) d .check ≡ Some c
     by true e f l = is-some (x .check) c e
     by false e f l = f (omega arith)

@@ -3,3 +3,5 @@ pub mod Tests
 pub mod Checks
 pub mod Rows
 pub mod Refused
+pub mod Grown
+pub mod Kept

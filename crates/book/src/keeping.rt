@@ -1,7 +1,6 @@
 // The book.
-ghost use Prim.Native.Nat.{_≤_};
-ghost use Rattle.std.specs.Of.Vec.{vec-cap};
 ghost use Rattle.book.specs.Plain.{plain};
+ghost use Rattle.book.specs.Room.{Roomy};
 ghost use Rattle.book.specs.Sound.{Sound};
 use crate::parts::Table;
 
@@ -9,7 +8,6 @@ use crate::parts::Table;
 #[derive(Drop)]
 pub struct Book {
     pub(crate) table: Table,
-    ghost jobs_room: { 20 ≤ vec-cap (table .jobs) },
-    ghost bounds_room: { 64 ≤ vec-cap (table .bounds) },
+    ghost room: { Roomy table },
     ghost wellformed: { ∥ Sound (plain table) ∥₁ },
 }

@@ -1,4 +1,5 @@
 // The plan book: jobs, checks and bounds, as a crew writes them down.
+pub mod calls;
 mod jobs;
 pub mod keeping;
 pub mod labels;

@@ -5,12 +5,13 @@ ghost use mathlib.Core.List.{_∷_, []};
 ghost use Prim.Native.Nat.{_≤_, _<_};
 ghost use lib.Dec.{leb};
 ghost use lib.IntN.{natAbs};
-ghost use Rattle.std.specs.Of.Vec.{vec-cap};
 ghost use Rattle.book.specs.Labels.{names};
 ghost use Rattle.book.specs.Plain.{plain, checks, asking, job, lacks, part-missing, row, first-row};
 ghost use Rattle.book.specs.Plain.{names-unknown, both-ways};
 ghost use Rattle.book.specs.Plain.{job-refusal, check-refusal, bound-refusal};
 ghost use Rattle.book.specs.declared.parts.Refusal.the-variants.{UnknownCheck, BothWays, PartMissing};
+ghost use Rattle.book.specs.Plain.{add-job, add-check, add-bound, withdraw};
+ghost use Rattle.book.specs.Room.{Roomy};
 ghost use Rattle.book.specs.Sound.{Sound};
 use crate::jobs::count_checks;
 use crate::jobs::place;
@@ -81,7 +82,7 @@ impl Table {
             ∷ row (both-ways label) BothWays
             ∷ row (part-missing (plain (now (self .entry))) label) PartMissing
             ∷ []
-        ) ⌝ }
+            ) ⌝ }
     {
         if names_from(label, self.checks()) {
             return Some(Refusal::UnknownCheck);
@@ -141,5 +142,67 @@ impl Table {
             return Some(Refusal::BoundsFull);
         }
         None
+    }
+
+    // Adds a job and answers its number, or refuses and alters nothing.
+    pub(crate) fn add_job(&mut self, label: Label) -> Result<usize, Refusal>
+        requires sound { ⌜ Sound (plain (now self)) ⌝ }
+        requires room { ⌜ Roomy (now self) ⌝ }
+        ensures answer { λ r. ⌜ r ≡ add-job (plain (now (self .entry))) label .answer ⌝ }
+        ensures after { λ _. ⌜ plain (now (self .exit)) ≡ add-job (plain (now (self .entry))) label .after ⌝ }
+        ensures room { λ _. ⌜ Roomy (now (self .exit)) ⌝ }
+    {
+        if let Some(refusal) = self.job_refusal(label) {
+            return Err(refusal);
+        }
+        let n = self.jobs.len();
+        self.jobs.push_reserved(Job { label, check: None });
+        Ok(n)
+    }
+
+    // Adds a check and answers its job's number, or refuses and alters nothing.
+    pub(crate) fn add_check(&mut self, label: Label) -> Result<usize, Refusal>
+        requires sound { ⌜ Sound (plain (now self)) ⌝ }
+        requires room { ⌜ Roomy (now self) ⌝ }
+        ensures answer { λ r. ⌜ r ≡ add-check (plain (now (self .entry))) label .answer ⌝ }
+        ensures after { λ _. ⌜ plain (now (self .exit)) ≡ add-check (plain (now (self .entry))) label .after ⌝ }
+        ensures room { λ _. ⌜ Roomy (now (self .exit)) ⌝ }
+    {
+        if let Some(refusal) = self.check_refusal(label) {
+            return Err(refusal);
+        }
+        let n = self.jobs.len();
+        let check = Some(self.checks());
+        self.jobs.push_reserved(Job { label, check });
+        Ok(n)
+    }
+
+    // Adds a bound and answers its number, or refuses and alters nothing.
+    pub(crate) fn add_bound(&mut self, bound: Bound) -> Result<usize, Refusal>
+        requires room { ⌜ Roomy (now self) ⌝ }
+        ensures answer { λ r. ⌜ r ≡ add-bound (plain (now (self .entry))) bound .answer ⌝ }
+        ensures after { λ _. ⌜ plain (now (self .exit)) ≡ add-bound (plain (now (self .entry))) bound .after ⌝ }
+        ensures room { λ _. ⌜ Roomy (now (self .exit)) ⌝ }
+    {
+        if let Some(refusal) = self.bound_refusal(bound) {
+            return Err(refusal);
+        }
+        let n = self.bounds.len();
+        self.bounds.push_reserved(bound);
+        Ok(n)
+    }
+
+    // Withdraws bound n, or refuses and alters nothing.
+    pub(crate) fn withdraw(&mut self, n: usize) -> Result<(), Refusal>
+        requires room { ⌜ Roomy (now self) ⌝ }
+        ensures answer { λ r. ⌜ r ≡ withdraw (plain (now (self .entry))) n .answer ⌝ }
+        ensures after { λ _. ⌜ plain (now (self .exit)) ≡ withdraw (plain (now (self .entry))) n .after ⌝ }
+        ensures room { λ _. ⌜ Roomy (now (self .exit)) ⌝ }
+    {
+        if n >= self.bounds.len() {
+            return Err(Refusal::UnknownBound);
+        }
+        let _ = self.bounds.remove(n);
+        Ok(())
     }
 }
