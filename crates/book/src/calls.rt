@@ -107,4 +107,11 @@ impl Book {
     {
         meets(self.table.label(j), case)
     }
+
+    // Makes this book hold what another holds.
+    pub fn copy_from(&mut self, other: &Book)
+        ensures { λ _. ⌜ held (now (self .exit)) ≡ held (now (other .entry)) ⌝ }
+    {
+        self.table.copy_from(&other.table);
+    }
 }

@@ -3,5 +3,6 @@ pub mod calls;
 mod jobs;
 pub mod keeping;
 pub mod labels;
+mod lists;
 pub mod parts;
 mod tables;

@@ -20,6 +20,7 @@ use crate::labels::lacks_part;
 use crate::labels::names_check;
 use crate::labels::names_from;
 use crate::labels::wants_both;
+use crate::lists::refill;
 use crate::parts::Bound;
 use crate::parts::Job;
 use crate::parts::Label;
@@ -204,5 +205,16 @@ impl Table {
         }
         let _ = self.bounds.remove(n);
         Ok(())
+    }
+
+    // Makes the two lists hold what those of another table hold.
+    pub(crate) fn copy_from(&mut self, other: &Table)
+        requires sound { ⌜ Sound (plain (now other)) ⌝ }
+        requires room { ⌜ Roomy (now self) ⌝ }
+        ensures same { λ _. ⌜ plain (now (self .exit)) ≡ plain (now (other .entry)) ⌝ }
+        ensures room { λ _. ⌜ Roomy (now (self .exit)) ⌝ }
+    {
+        refill(&mut self.jobs, other.jobs.as_slice());
+        refill(&mut self.bounds, other.bounds.as_slice());
     }
 }
