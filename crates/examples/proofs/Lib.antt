@@ -1,0 +1,3 @@
+mod Forced
+mod Tested
+mod Worked

@@ -1,0 +1,98 @@
+-- The worked examples, each a statement of the definitions.
+use mathlib.Core.Path.{_≡_}
+use mathlib.Core.List.{List, [], _∷_}
+use Prim.Native.Nat.{ℕ}
+use lib.IntN.{ℤ, pos, negsuc}
+use Rattle.std.specs.declared.result.Result.the-variants.{Ok}
+use Rattle.book.specs.Plain.{Plain, cases, new-book, add-check, add-job, add-bound, withdraw}
+use Rattle.rules.specs.Rules.{Keeps}
+use Rattle.grades.specs.Grades.{Minutes, Weak, Strong, Dynamic, Earliest}
+use Rattle.grades.specs.Systems.{listed, weak-system}
+use Rattle.examples.specs.Plans.{label, least, most, start, pump, grout, seal, plan, wet-hole, wet-hole-calls, fed, answers, Taken, Refused, written, timetable}
+
+-- no strategy of a grade
+abbrev pub Without : (Minutes → Type 0) → Type 0
+Without Grade = (minute : Minutes) → Grade minute → ⊥
+
+-- A new book has one case, and in every grade `start` at minute 0.
+abbrev pub at-once : Minutes
+at-once = written ((0 ∷ []) ∷ [])
+
+pub record New-book : Type 0 where
+  pub one-case : cases new-book ≡ 1
+  pub strong : Earliest new-book (Strong new-book) at-once
+  pub dynamic : Earliest new-book (Dynamic new-book) at-once
+  pub weak : Earliest new-book (Weak new-book) at-once
+
+-- The plan is what its calls write down in a new book, and each answers the new number. It is dynamic and not strong: in a dry
+-- hole grout comes right after the look, in a wet one after the pumping.
+pub record Wet-hole : Type 0 where
+  pub answers-are : answers new-book wet-hole-calls ≡ Ok 1 ∷ Ok 2 ∷ Ok 3 ∷ Ok 4 ∷ Ok 0 ∷ Ok 1 ∷ Ok 2 ∷ Ok 3 ∷ Ok 4 ∷ []
+  pub plan-is : fed new-book wet-hole-calls ≡ wet-hole
+  pub not-strong : Without (Strong wet-hole)
+  pub dynamic : Earliest wet-hole (Dynamic wet-hole) (timetable 61 61)
+  pub listed-as : listed wet-hole (timetable 61 61)
+      ≡ pos 0 ∷ pos 60 ∷ negsuc 0 ∷ pos 61 ∷ pos 61 ∷ pos 0 ∷ pos 60 ∷ pos 65 ∷ pos 155 ∷ negsuc 0 ∷ []
+
+-- Were the outcome known in advance, grout would come at minute 0 in a dry hole.
+pub record Known-before : Type 0 where
+  pub weak : Earliest wet-hole (Weak wet-hole) (timetable 0 61)
+
+-- Without bound 4 one timetable serves both outcomes, with grout at 155.
+abbrev pub loosened : Plain
+loosened = withdraw wet-hole 4 .after
+
+pub record Loosened : Type 0 where
+  pub taken : Taken (withdraw wet-hole 4) tt
+  pub strong : Earliest loosened (Strong loosened) (timetable 155 61)
+
+-- With grout at most an hour after `start` no timetable fits a wet hole, and so there is no strategy; a table for a dry one there is.
+abbrev pub hurried : Plain
+hurried = add-bound wet-hole (most start grout (pos 60)) .after
+
+pub record Hurried : Type 0 where
+  pub taken : Taken (add-bound wet-hole (most start grout (pos 60))) 5
+  pub not-weak : Without (Weak hurried)
+  pub dry-kept : Keeps (weak-system hurried 0) (0 ∷ 60 ∷ 0 ∷ 0 ∷ 61 ∷ [])
+  pub wet-fails : (table : List ℕ) → Keeps (weak-system hurried 1) table → ⊥
+
+-- The seal at most 5 minutes after the look, and so many after the grout: 5 are too many for whoever learns the outcome at the
+-- hole, 4 are not.
+abbrev pub tight : ℤ → Plain
+tight minutes = plan (pos 5) (least grout seal minutes ∷ [])
+
+pub record Tight-by-five : Type 0 where
+  pub weak : Earliest (tight (pos 5)) (Weak (tight (pos 5))) (timetable 0 61)
+  pub not-dynamic : Without (Dynamic (tight (pos 5)))
+
+pub record Tight-by-four : Type 0 where
+  pub dynamic : Earliest (tight (pos 4)) (Dynamic (tight (pos 4))) (timetable 61 65)
+
+-- Minutes beyond three days are refused, and so is a bound between two jobs that exclude each other.
+pub record Bounds-taken : Type 0 where
+  pub three-days : Taken (add-bound wet-hole (least start grout (pos 4320))) 5
+  pub three-days-back : Taken (add-bound wet-hole (least start grout (negsuc 4319))) 5
+  pub beyond : Refused wet-hole (add-bound wet-hole (least start grout (pos 4321))) 7
+  pub beyond-back : Refused wet-hole (add-bound wet-hole (least start grout (negsuc 4320))) 7
+  pub exclusive : Refused wet-hole (add-bound wet-hole (least pump seal (pos 0))) 9
+
+-- Check `core` waits for a no of `wet`; a job that waits for a yes of `core` has to wait for that no too.
+abbrev pub with-core : Plain
+with-core = add-check wet-hole (label 0 1) .after
+
+pub record Labels-taken : Type 0 where
+  pub core : Taken (add-check wet-hole (label 0 1)) 5
+  pub part-missing : Refused with-core (add-job with-core (label 2 0)) 5
+  pub whole : Taken (add-job with-core (label 2 1)) 6
+
+-- all of them
+pub record Worked : Type 0 where
+  pub new-book : New-book
+  pub wet-hole : Wet-hole
+  pub known-before : Known-before
+  pub loosened : Loosened
+  pub hurried : Hurried
+  pub tight-by-five : Tight-by-five
+  pub tight-by-four : Tight-by-four
+  pub bounds-taken : Bounds-taken
+  pub labels-taken : Labels-taken
