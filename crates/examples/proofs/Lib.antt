@@ -1,3 +1,5 @@
 mod Forced
+mod Loops
+mod Logs
 mod Tested
 mod Worked

@@ -41,11 +41,11 @@ if-true false y e h = let z : _≡_ {A = ℕ} 0 1 = cc in absurd (omega arith)
 pub all-true : (n : ℕ) (p : ℕ → Bool) → all-below n p ≡ true → (k : ℕ) → k < n → p k ≡ true
 all-true n p e = decides-below-and p (λ k. p k ≡ true) (λ m. all-below m p) (λ k. (λ h. h, λ h. h)) refl (λ _. refl) n .0 e
 
-at-most-decides : (x y : ℕ) → Decides (leb x y) (x ≤ y)
+pub at-most-decides : (x y : ℕ) → Decides (leb x y) (x ≤ y)
 at-most-decides x y = (λ h. grind (arith, tells), λ h. grind (arith, tells))
 
 -- a number below 2 ^ k has no bit at k or above
-no-bit : (x k c : ℕ) → x < 2 ^ k → bit x c ≡ 1 → c < k
+pub no-bit : (x k c : ℕ) → x < 2 ^ k → bit x c ≡ 1 → c < k
 no-bit x k c h e = by (decLt c k)
   where
     by : Dec (c < k) → c < k

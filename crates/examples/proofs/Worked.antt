@@ -10,13 +10,16 @@ use Rattle.book.specs.declared.parts.Refusal.the-variants.{PartMissing, Minutes
 use Rattle.book.specs.Plain as book
 use Rattle.rules.specs.Rules.{Keeps, rule}
 use Rattle.grades.specs.Grades.{Minutes, Weak, Strong, Dynamic}
-use Rattle.grades.specs.Systems.{weak-system}
+use Rattle.grades.specs.Systems.{strong-system, weak-system}
+use Rattle.rules.specs.Loops.{Loop}
 use Rattle.examples.specs.Plans as plans
-use Rattle.examples.specs.Plans.{least, most, start, wet, grout, seal, timetable}
+use Rattle.examples.specs.Plans.{least, most, start, wet, pump, grout, seal, timetable}
 use Rattle.examples.specs.Worked as specs
 use Rattle.examples.specs.Worked.{Worked, New-book, Wet-hole, Known-before, Loosened, Hurried, Tight-by-five, Tight-by-four, Bounds-taken, Labels-taken}
-use Rattle.examples.specs.Worked.{Without}
+use Rattle.examples.specs.Worked.{Runs, Without}
 use Rattle.examples.proofs.Forced.{low-rows-at, kept-at, done-in, shared, no-later, look-same, grout-waits}
+use Rattle.examples.proofs.Loops.{once-by-test}
+use Rattle.examples.proofs.Logs.{lawful-by-test, ended-by-test}
 use Rattle.examples.proofs.Tested.{strategy-by-test, strong-by-test, dynamic-by-test, keeps-by-test, only}
 
 new-book : New-book
@@ -39,6 +42,9 @@ wet-hole = record {
   answers-are = refl;
   plan-is = refl;
   not-strong = not-strong;
+  loop = loop;
+  loop-of = refl;
+  sum = refl;
   dynamic = record { good = dynamic-by-test plans.wet-hole (timetable 61 61) refl refl; first = λ m d s h j l _. first m d s j };
   listed-as = refl;
 }
@@ -51,6 +57,15 @@ wet-hole = record {
         let w = d .same 0 1 (omega arith) (omega arith) 1 (omega arith) (done-in plans.wet-hole 0 1 refl) (done-in plans.wet-hole 1 1 refl) in
         let g = d .same 0 1 (omega arith) (omega arith) 3 (omega arith) (done-in plans.wet-hole 0 3 refl) (done-in plans.wet-hole 1 3 refl) in
         omega (arith, ints)
+
+    loop : Loop (strong-system plans.wet-hole) (1 ∷ 3 ∷ 4 ∷ 2 ∷ [])
+    loop = record {
+      from = pump;
+      closes = (omega arith, refl, (omega arith, refl, (omega arith, refl, (omega arith, refl, refl))));
+      once = once-by-test (strong-system plans.wet-hole) (1 ∷ 3 ∷ 4 ∷ 2 ∷ []) refl;
+      short = omega arith;
+      above = omega (arith, ints);
+    }
 
     first : (m : Minutes) → Dynamic plans.wet-hole m → (s j : ℕ) → timetable 61 61 s j ≤ m s j
     first m d =
@@ -89,6 +104,15 @@ hurried = record {
       let b5 = kept-at specs.hurried m d 1 (omega arith) 5 (omega arith) refl in
       omega (arith, ints);
   dry-kept = keeps-by-test (weak-system specs.hurried 0) (0 ∷ 60 ∷ 0 ∷ 0 ∷ 61 ∷ []) refl refl;
+  loop = record {
+    from = wet;
+    closes = (omega arith, refl, (omega arith, refl, (omega arith, refl, (omega arith, refl, refl))));
+    once = once-by-test (weak-system specs.hurried 1) (0 ∷ 3 ∷ 2 ∷ 1 ∷ []) refl;
+    short = omega arith;
+    above = omega (arith, ints);
+  };
+  loop-of = refl;
+  sum = refl;
   wet-fails = λ table k.
       let b0 = only table (rule (weak-system specs.hurried 1) 0) refl (k .each 0 (omega arith)) in
       let b1 = only table (rule (weak-system specs.hurried 1) 1) refl (k .each 1 (omega arith)) in
@@ -136,6 +160,18 @@ bounds-taken = record {
 labels-taken : Labels-taken
 labels-taken = record { core = refl; part-missing = (PartMissing, refl, refl, refl); whole = refl }
 
+runs : Runs
+runs = record {
+  dry-lawful = lawful-by-test plans.wet-hole (timetable 61 61) specs.dry-run refl;
+  dry-ended = ended-by-test plans.wet-hole specs.dry-run refl refl;
+  dry-jobs = refl;
+  dry-last = refl;
+  wet-lawful = lawful-by-test plans.wet-hole (timetable 61 61) specs.wet-run refl;
+  wet-ended = ended-by-test plans.wet-hole specs.wet-run refl refl;
+  wet-jobs = refl;
+  wet-last = refl;
+}
+
 pub worked : Worked
 worked = record {
   new-book = new-book;
@@ -147,4 +183,5 @@ worked = record {
   tight-by-four = tight-by-four;
   bounds-taken = bounds-taken;
   labels-taken = labels-taken;
+  runs = runs;
 }

@@ -1,18 +1,33 @@
 -- The worked examples, each a statement of the definitions.
 use mathlib.Core.Path.{_≡_}
-use mathlib.Core.List.{List, [], _∷_}
-use Prim.Native.Nat.{ℕ}
+use mathlib.Core.List.{List, [], _∷_, map}
+use mathlib.Core.Bool.{Bool, true, false}
+use Prim.Native.Nat.{ℕ, zero, suc, _+_, _^_}
 use lib.IntN.{ℤ, pos, negsuc}
+use Rattle.std.specs.declared.option.Option.{Option}
+use Rattle.std.specs.declared.option.Option.the-variants.{Some}
 use Rattle.std.specs.declared.result.Result.the-variants.{Ok}
+use Rattle.book.specs.Labels.{bit}
 use Rattle.book.specs.Plain.{Plain, cases, new-book, add-check, add-job, add-bound, withdraw}
-use Rattle.rules.specs.Rules.{Keeps}
+use Rattle.rules.specs.declared.parts.Origin.{Origin}
+use Rattle.rules.specs.declared.parts.Origin.the-variants.{Bound}
+use Rattle.rules.specs.Rules.{Keeps, item}
+use Rattle.rules.specs.Loops.{Loop, total}
 use Rattle.grades.specs.Grades.{Minutes, Weak, Strong, Dynamic, Earliest}
-use Rattle.grades.specs.Systems.{listed, weak-system}
-use Rattle.examples.specs.Plans.{label, least, most, start, pump, grout, seal, plan, wet-hole, wet-hole-calls, fed, answers, Taken, Refused, written, timetable}
+use Rattle.grades.specs.Systems.{listed, strong-system, weak-system, strong-origins, weak-origins}
+use Rattle.walks.specs.declared.parts.Event.{Event}
+use Rattle.walks.specs.declared.parts.Event.the-variants.{Told, Reported}
+use Rattle.walks.specs.Logs.{Lawful, Ended, all-told, last-minute}
+use Rattle.examples.specs.Plans.{label, least, most, start, wet, pump, grout, seal}
+use Rattle.examples.specs.Plans.{plan, wet-hole, wet-hole-calls, fed, answers, Taken, Refused, written, timetable}
 
 -- no strategy of a grade
 abbrev pub Without : (Minutes → Type 0) → Type 0
 Without Grade = (minute : Minutes) → Grade minute → ⊥
+
+-- the origins of the rules with these numbers
+abbrev pub origins : List Origin → List ℕ → List (Option Origin)
+origins all rules = map (item all) rules
 
 -- A new book has one case, and in every grade `start` at minute 0.
 abbrev pub at-once : Minutes
@@ -30,6 +45,9 @@ pub record Wet-hole : Type 0 where
   pub answers-are : answers new-book wet-hole-calls ≡ Ok 1 ∷ Ok 2 ∷ Ok 3 ∷ Ok 4 ∷ Ok 0 ∷ Ok 1 ∷ Ok 2 ∷ Ok 3 ∷ Ok 4 ∷ []
   pub plan-is : fed new-book wet-hole-calls ≡ wet-hole
   pub not-strong : Without (Strong wet-hole)
+  pub loop : Loop (strong-system wet-hole) (1 ∷ 3 ∷ 4 ∷ 2 ∷ [])
+  pub loop-of : origins (strong-origins wet-hole) (1 ∷ 3 ∷ 4 ∷ 2 ∷ []) ≡ Some (Bound 1) ∷ Some (Bound 3) ∷ Some (Bound 4) ∷ Some (Bound 2) ∷ []
+  pub sum : total (strong-system wet-hole) (1 ∷ 3 ∷ 4 ∷ 2 ∷ []) ≡ pos 65
   pub dynamic : Earliest wet-hole (Dynamic wet-hole) (timetable 61 61)
   pub listed-as : listed wet-hole (timetable 61 61)
       ≡ pos 0 ∷ pos 60 ∷ negsuc 0 ∷ pos 61 ∷ pos 61 ∷ pos 0 ∷ pos 60 ∷ pos 65 ∷ pos 155 ∷ negsuc 0 ∷ []
@@ -54,6 +72,9 @@ pub record Hurried : Type 0 where
   pub taken : Taken (add-bound wet-hole (most start grout (pos 60))) 5
   pub not-weak : Without (Weak hurried)
   pub dry-kept : Keeps (weak-system hurried 0) (0 ∷ 60 ∷ 0 ∷ 0 ∷ 61 ∷ [])
+  pub loop : Loop (weak-system hurried 1) (0 ∷ 3 ∷ 2 ∷ 1 ∷ [])
+  pub loop-of : origins (weak-origins hurried 1) (0 ∷ 3 ∷ 2 ∷ 1 ∷ []) ≡ Some (Bound 0) ∷ Some (Bound 5) ∷ Some (Bound 2) ∷ Some (Bound 1) ∷ []
+  pub sum : total (weak-system hurried 1) (0 ∷ 3 ∷ 2 ∷ 1 ∷ []) ≡ pos 95
   pub wet-fails : (table : List ℕ) → Keeps (weak-system hurried 1) table → ⊥
 
 -- The seal at most 5 minutes after the look, and so many after the grout: 5 are too many for whoever learns the outcome at the
@@ -85,6 +106,34 @@ pub record Labels-taken : Type 0 where
   pub part-missing : Refused with-core (add-job with-core (label 2 0)) 5
   pub whole : Taken (add-job with-core (label 2 1)) 6
 
+-- The run on the plan's sheet, told no and told yes. A log has the newest event first.
+abbrev pub told : ℕ → ℕ → Event
+told minute jobs = Told (record { minute = minute; jobs = jobs })
+
+abbrev pub reported : Bool → Event
+reported said = Reported (record { check = 0; yes = said })
+
+-- how many of the first n jobs are in a set
+abbrev pub members : ℕ → ℕ → ℕ
+members zero jobs = 0
+members (suc n) jobs = bit jobs n + members n jobs
+
+abbrev pub dry-run : List Event
+dry-run = told 61 (2 ^ grout + 2 ^ seal) ∷ reported false ∷ told 60 (2 ^ wet) ∷ told 0 (2 ^ start) ∷ []
+
+abbrev pub wet-run : List Event
+wet-run = told 155 (2 ^ grout) ∷ told 65 (2 ^ pump) ∷ reported true ∷ told 60 (2 ^ wet) ∷ told 0 (2 ^ start) ∷ []
+
+pub record Runs : Type 0 where
+  pub dry-lawful : Lawful wet-hole (timetable 61 61) dry-run
+  pub dry-ended : Ended wet-hole dry-run
+  pub dry-jobs : members 5 (all-told dry-run) ≡ 4
+  pub dry-last : last-minute dry-run ≡ Some 61
+  pub wet-lawful : Lawful wet-hole (timetable 61 61) wet-run
+  pub wet-ended : Ended wet-hole wet-run
+  pub wet-jobs : members 5 (all-told wet-run) ≡ 4
+  pub wet-last : last-minute wet-run ≡ Some 155
+
 -- all of them
 pub record Worked : Type 0 where
   pub new-book : New-book
@@ -96,3 +145,4 @@ pub record Worked : Type 0 where
   pub tight-by-four : Tight-by-four
   pub bounds-taken : Bounds-taken
   pub labels-taken : Labels-taken
+  pub runs : Runs
