@@ -1,22 +1,22 @@
 -- What a plan for a hole that may be wet forces: lower bounds of every strategy's minutes.
 use mathlib.Core.Path.{_≡_, refl}
-use mathlib.Core.Bool.{Bool, true}
+use mathlib.Core.Bool.{true}
 use mathlib.Core.List.{List, [], _∷_}
 use mathlib.Core.Logic.{inl, inr}
 use Prim.Native.Nat.{ℕ, zero, suc, _+_, _≤_, _<_}
 use native.Mathlib.Decide.{decLe}
 use native.Mathlib.Omega.{arith}
-use lib.IntN.{ℤ, pos}
+use lib.IntN.{pos}
 use lib.ListN.{length, getD}
 use Rattle.std.proofs.shelf.Signed.{ints}
 use Rattle.book.specs.declared.parts.Bound.{Bound}
 use Rattle.book.specs.Plain.{Plain, Done, Case, bound}
 use Rattle.book.specs.Done.{done}
 use Rattle.book.proofs.Tests.{done-decides}
-use Rattle.grades.specs.Grades.{Minutes, Counts, Keeps-bound, Agrees, Strategy, Dynamic}
+use Rattle.grades.specs.Grades.{Minutes, Keeps-bound, Agrees, Strategy, Dynamic}
 use Rattle.grades.specs.Systems.{counts}
 use Rattle.grades.proofs.Tests.{counts-decides}
-use Rattle.examples.specs.Plans.{least, start, wet, pump, grout, seal, wet-hole, written, timetable}
+use Rattle.examples.specs.Plans.{least, start, wet, pump, grout, wet-hole, written, timetable}
 
 -- the minutes of a row, and of rows, are no later than others
 abbrev pub Low : List ℕ → (ℕ → ℕ) → Type 0

@@ -1,5 +1,6 @@
 mod Forced
 mod Loops
 mod Logs
+mod OneRun
 mod Tested
 mod Worked

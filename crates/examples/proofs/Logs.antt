@@ -1,25 +1,25 @@
 -- Lawful logs shown by tests that are computed.
-use mathlib.Core.Path.{_≡_, refl, sym}
+use mathlib.Core.Path.{_≡_, refl}
 use mathlib.Core.Bool.{Bool, true, false, cond, not, _&&_, _||_}
 use mathlib.Core.List.{List, [], _∷_}
 use mathlib.Core.Logic.{_⊎_, _↔_, inl, inr}
-use Prim.Native.Nat.{ℕ, zero, suc, _^_, _≤_, _<_}
+use Prim.Native.Nat.{ℕ, _^_, _<_}
 use native.Mathlib.Omega.{arith}
 use lib.Dec.{eqb, leb, ltb}
 use lib.ListN.{length}
 use Rattle.std.specs.Orderings.{Decides}
 use Rattle.std.proofs.shelf.Ways.{decides-and, decides-or, decides-not, decides-like, decides-eqb, decides-ltb}
 use Rattle.book.specs.Labels.{bit, all-below}
-use Rattle.book.specs.Plain.{Plain, checks, cases, asking, Done}
+use Rattle.book.specs.Plain.{Plain, checks, cases, asking}
 use Rattle.book.specs.Done.{done}
+use Rattle.book.proofs.Bits.{bit-below}
 use Rattle.book.proofs.Tests.{done-decides}
 use Rattle.grades.specs.Grades.{Minutes}
 use Rattle.walks.specs.declared.parts.Telling.{Telling}
-use Rattle.walks.specs.declared.parts.Report.{Report}
 use Rattle.walks.specs.declared.parts.Event.{Event}
 use Rattle.walks.specs.declared.parts.Event.the-variants.{Told, Reported}
-use Rattle.walks.specs.Logs.{Has, Told-at, Heard, Agrees, Left, Awaited, Asked, None-awaited, Tells, Lawful, Ended, just-told}
-use Rattle.examples.proofs.Tested.{and-left, and-right, if-true, all-true, at-most-decides, no-bit}
+use Rattle.walks.specs.Logs.{Has, Told-at, Heard, Agrees, Left, Awaited, None-awaited, Tells, Lawful, Ended, just-told}
+use Rattle.examples.proofs.Tested.{and-left, and-right, if-true, all-true, at-most-decides}
 
 never-decides : {P : Type 0} → (P → ⊥) → Decides false P
 never-decides n = (λ e. let z : _≡_ {A = ℕ} 0 1 = cc in absurd (omega arith), λ p. absurd (n p))
@@ -73,7 +73,7 @@ told-decides (Told t ∷ log) j = decides-like (was-told (Told t ∷ log) j) to 
 abbrev pub left : Plain → List Event → ℕ → ℕ → Bool
 left b log s j = ltb j (length (b .jobs)) && (done b s j && not (was-told log j))
 
-left-decides : (b : Plain) (log : List Event) (s j : ℕ) → Decides (left b log s j) (Left b log s j)
+pub left-decides : (b : Plain) (log : List Event) (s j : ℕ) → Decides (left b log s j) (Left b log s j)
 left-decides b log s j =
     decides-three (ltb j (length (b .jobs))) (done b s j) (not (was-told log j)) (decides-ltb j (length (b .jobs))) (done-decides b s j)
     (decides-like (not (was-told log j)) (λ f v x. f (v, x)) (λ f x. f (x .0) (x .1)) (decides-not (was-told log j) (told-decides log j)))
@@ -82,7 +82,7 @@ left-decides b log s j =
 abbrev pub awaited : Plain → List Event → ℕ → Bool
 awaited b log c = ltb c (checks b) && (eqb (bit (just-told log) (asking b c)) 1 && not (heard log c))
 
-awaited-decides : (b : Plain) (log : List Event) (c : ℕ) → Decides (awaited b log c) (Awaited b log c)
+pub awaited-decides : (b : Plain) (log : List Event) (c : ℕ) → Decides (awaited b log c) (Awaited b log c)
 awaited-decides b log c =
     decides-three (ltb c (checks b)) (eqb (bit (just-told log) (asking b c)) 1) (not (heard log c))
     (decides-ltb c (checks b)) (decides-eqb (bit (just-told log) (asking b c)) 1) (decides-not (heard log c) (heard-decides log c))
@@ -93,7 +93,7 @@ not-awaited b log c = not (awaited b log c)
 none-below : (b : Plain) (log : List Event) (n : ℕ) → all-below n (not-awaited b log) ≡ true → (c : ℕ) → c < n → Awaited b log c → ⊥
 none-below b log n e c h = decides-not (awaited b log c) (awaited-decides b log c) .0 (all-true n (not-awaited b log) e c h)
 
-none-awaited-by-test : (b : Plain) (log : List Event) → all-below (checks b) (not-awaited b log) ≡ true → None-awaited b log
+pub none-awaited-by-test : (b : Plain) (log : List Event) → all-below (checks b) (not-awaited b log) ≡ true → None-awaited b log
 none-awaited-by-test b log e c a = none-below b log (checks b) e c (a .0) a
 
 -- a test of every agreeing case and each job
@@ -131,7 +131,7 @@ abbrev pub tells : Plain → Minutes → List Event → Telling → Bool
 tells b minute log t =
     (not (eqb (t .jobs) 0) && ltb (t .jobs) (2 ^ length (b .jobs))) && (due-exactly b minute log t && due-first b minute log t)
 
-tells-by-test : (b : Plain) (minute : Minutes) (log : List Event) (t : Telling) → tells b minute log t ≡ true → Tells b minute log t
+pub tells-by-test : (b : Plain) (minute : Minutes) (log : List Event) (t : Telling) → tells b minute log t ≡ true → Tells b minute log t
 tells-by-test b minute log t e = record {
   some = decides-not (eqb (t .jobs) 0) (decides-eqb (t .jobs) 0) .0 (and-left (not (eqb (t .jobs) 0)) (ltb (t .jobs) (2 ^ length (b .jobs))) set);
   exactly = λ s a j. (λ h. at s a j (in-book j h) .0 h, λ l. at s a j (l .0 .0) .1 l);
@@ -150,7 +150,7 @@ tells-by-test b minute log t e = record {
 
     in-book : (j : ℕ) → Has (t .jobs) j → j < length (b .jobs)
     in-book j h =
-        no-bit (t .jobs) (length (b .jobs)) j
+        bit-below (t .jobs) (length (b .jobs)) j
         (decides-ltb (t .jobs) (2 ^ length (b .jobs)) .0 (and-right (not (eqb (t .jobs) 0)) (ltb (t .jobs) (2 ^ length (b .jobs))) set)) h
 
     at : (s : ℕ) → (s < cases b) × Agrees log s → (j : ℕ) → j < length (b .jobs) → Has (t .jobs) j ↔ (Left b log s j × (minute s j ≡ t .minute))

@@ -1,16 +1,13 @@
 -- Strategies and their grades shown by tests that are computed.
-use mathlib.Core.Path.{_≡_, refl, sym, ap}
+use mathlib.Core.Path.{_≡_, refl, sym}
 use mathlib.Core.Bool.{Bool, true, false, cond, not, _&&_, _||_}
 use mathlib.Core.List.{List}
 use mathlib.Core.Logic.{_⊎_, inl, inr}
-use Prim.Native.Nat.{ℕ, zero, suc, _+_, _/_, _%_, _^_, _≤_, _<_}
-use native.Mathlib.Decide.{decLt}
-use native.Mathlib.Nat.{div-eq-of-lt}
+use Prim.Native.Nat.{ℕ, zero, suc, _^_, _≤_, _<_}
 use native.Mathlib.Omega.{arith}
 use lib.Dec.{eqb, leb, ltb}
 use lib.IntN.{ℤ, pos, _+ℤ_}
 use lib.ListN.{length}
-use lib.Pow.{pow-mono}
 use lib.Signed.{ltZ}
 use Rattle.std.specs.Orderings.{Decides}
 use Rattle.std.proofs.shelf.Signed.{ints}
@@ -20,9 +17,10 @@ use Rattle.book.specs.declared.parts.Kind.the-variants.{Least, Most}
 use Rattle.book.specs.Labels.{bit, names, all-below, any-below, Names}
 use Rattle.book.specs.Plain.{Plain, job, bound, checks, cases, asking, Done}
 use Rattle.book.specs.Done.{done}
+use Rattle.book.proofs.Bits.{bit-below}
 use Rattle.book.proofs.Tests.{names-decides, done-decides}
 use Rattle.rules.specs.Rules.{Rule, System, Kept, Kept-by, Keeps, at, rule, alternative}
-use Rattle.grades.specs.Grades.{Minutes, known-at, Within, Counts, Strategy, Strong, Dynamic, Known, Agrees}
+use Rattle.grades.specs.Grades.{Minutes, known-at, Within, Strategy, Strong, Dynamic, Agrees}
 use Rattle.grades.specs.Systems.{counts, tells-apart}
 use Rattle.grades.proofs.Tests.{counts-decides, both-decides, tells-apart-decides}
 
@@ -43,19 +41,6 @@ all-true n p e = decides-below-and p (λ k. p k ≡ true) (λ m. all-below m p) 
 
 pub at-most-decides : (x y : ℕ) → Decides (leb x y) (x ≤ y)
 at-most-decides x y = (λ h. grind (arith, tells), λ h. grind (arith, tells))
-
--- a number below 2 ^ k has no bit at k or above
-pub no-bit : (x k c : ℕ) → x < 2 ^ k → bit x c ≡ 1 → c < k
-no-bit x k c h e = by (decLt c k)
-  where
-    by : Dec (c < k) → c < k
-    by (yes l) = l
-    by (no l) =
-        let m : k ≤ c = omega arith in
-        let p : 2 ^ k ≤ 2 ^ c = pow-mono m in
-        let z : x / 2 ^ c ≡ 0 = div-eq-of-lt (omega arith) in
-        let w : bit x c ≡ 0 % 2 = ap (λ n. n % 2) z in
-        absurd (omega arith)
 
 -- a bound that counts is kept
 abbrev pub within : Kind → ℤ → ℕ → ℕ → Bool
@@ -111,8 +96,8 @@ named-in b e j h c n = by n
     both = all-true (length (b .jobs)) (label-known b) e j h
 
     by : Names (job b j .label) c → c < checks b
-    by (inl y) = no-bit (job b j .label .yes) (checks b) c (decides-ltb (job b j .label .yes) (2 ^ checks b) .0 (and-left yes-low no-low both)) y
-    by (inr y) = no-bit (job b j .label .no) (checks b) c (decides-ltb (job b j .label .no) (2 ^ checks b) .0 (and-right yes-low no-low both)) y
+    by (inl y) = bit-below (job b j .label .yes) (checks b) c (decides-ltb (job b j .label .yes) (2 ^ checks b) .0 (and-left yes-low no-low both)) y
+    by (inr y) = bit-below (job b j .label .no) (checks b) c (decides-ltb (job b j .label .no) (2 ^ checks b) .0 (and-right yes-low no-low both)) y
 
 -- minutes that pass the test are a strategy
 pub strategy-by-test : (b : Plain) (minute : Minutes) → kept b minute ≡ true → Strategy b minute

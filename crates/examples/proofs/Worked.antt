@@ -1,25 +1,27 @@
 -- The worked examples proved.
-use mathlib.Core.Path.{_≡_, refl}
+use mathlib.Core.Path.{refl}
 use mathlib.Core.List.{List, [], _∷_}
 use Prim.Native.Nat.{ℕ, _≤_}
 use native.Mathlib.Omega.{arith}
+use lib.Count.{ones}
 use lib.IntN.{ℤ, pos}
 use Rattle.std.proofs.shelf.Signed.{ints}
 use Rattle.book.specs.declared.parts.Bound.{Bound}
 use Rattle.book.specs.declared.parts.Refusal.the-variants.{PartMissing, MinutesBeyond, Exclusive}
 use Rattle.book.specs.Plain as book
-use Rattle.rules.specs.Rules.{Keeps, rule}
+use Rattle.rules.specs.Loops.{Loop}
+use Rattle.rules.specs.Rules.{rule}
 use Rattle.grades.specs.Grades.{Minutes, Weak, Strong, Dynamic}
 use Rattle.grades.specs.Systems.{strong-system, weak-system}
-use Rattle.rules.specs.Loops.{Loop}
 use Rattle.examples.specs.Plans as plans
 use Rattle.examples.specs.Plans.{least, most, start, wet, pump, grout, seal, timetable}
 use Rattle.examples.specs.Worked as specs
 use Rattle.examples.specs.Worked.{Worked, New-book, Wet-hole, Known-before, Loosened, Hurried, Tight-by-five, Tight-by-four, Bounds-taken, Labels-taken}
 use Rattle.examples.specs.Worked.{Runs, Without}
-use Rattle.examples.proofs.Forced.{low-rows-at, kept-at, done-in, shared, no-later, look-same, grout-waits}
+use Rattle.examples.proofs.Forced.{low-rows-at, kept-at, done-in, shared, no-later, grout-waits}
 use Rattle.examples.proofs.Loops.{once-by-test}
 use Rattle.examples.proofs.Logs.{lawful-by-test, ended-by-test}
+use Rattle.examples.proofs.OneRun.{no-other}
 use Rattle.examples.proofs.Tested.{strategy-by-test, strong-by-test, dynamic-by-test, keeps-by-test, only}
 
 new-book : New-book
@@ -123,6 +125,7 @@ hurried = record {
 
 tight-by-five : Tight-by-five
 tight-by-five = record {
+  plan-is = refl;
   weak = record { good = strategy-by-test (specs.tight (pos 5)) (timetable 0 61) refl; first = λ m d s h j l _. first m d s j };
   not-dynamic = λ m d.
       let g = grout-waits (further (pos 5) (least grout seal (pos 5) ∷ [])) m d in
@@ -138,6 +141,7 @@ tight-by-five = record {
 
 tight-by-four : Tight-by-four
 tight-by-four = record {
+  plan-is = refl;
   dynamic = record { good = dynamic-by-test (specs.tight (pos 4)) (timetable 61 65) refl refl; first = λ m d s h j l _. first m d s j };
 }
   where
@@ -161,6 +165,7 @@ labels-taken : Labels-taken
 labels-taken = record { core = refl; part-missing = (PartMissing, refl, refl, refl); whole = refl }
 
 runs : Runs
+unfolding ones
 runs = record {
   dry-lawful = lawful-by-test plans.wet-hole (timetable 61 61) specs.dry-run refl;
   dry-ended = ended-by-test plans.wet-hole specs.dry-run refl refl;
@@ -170,6 +175,7 @@ runs = record {
   wet-ended = ended-by-test plans.wet-hole specs.wet-run refl refl;
   wet-jobs = refl;
   wet-last = refl;
+  no-other = no-other;
 }
 
 pub worked : Worked

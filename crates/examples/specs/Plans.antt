@@ -1,6 +1,6 @@
 -- The plans of the worked examples, and the calls that write them down.
 use mathlib.Core.Path.{_≡_}
-use mathlib.Core.List.{List, [], _∷_, _++_}
+use mathlib.Core.List.{List, [], _∷_, map}
 use Prim.Native.Nat.{ℕ}
 use lib.IntN.{ℤ, pos}
 use lib.ListN.{getD}
@@ -11,7 +11,7 @@ use Rattle.book.specs.declared.parts.Label.{Label}
 use Rattle.book.specs.declared.parts.Kind.the-variants.{Least, Most}
 use Rattle.book.specs.declared.parts.Bound.{Bound}
 use Rattle.book.specs.declared.parts.Refusal.{Refusal}
-use Rattle.book.specs.Plain.{Plain, Outcome, number, empty-label, no-job, new-book, add-check, add-job, add-bound}
+use Rattle.book.specs.Plain.{Plain, Outcome, number, empty-label, no-job, add-check, add-job, add-bound}
 use Rattle.grades.specs.Grades.{Minutes}
 
 -- a label by the checks that it wants yes and those that it wants no, check k counted as 2 to the k
@@ -77,19 +77,14 @@ abbrev pub answers : Plain → List Call → List (Result ℕ Refusal)
 answers b [] = []
 answers b (c ∷ cs) = outcome b c .answer ∷ answers (outcome b c .after) cs
 
--- the calls of the plan: four jobs, the first of them a check, and five bounds
-abbrev pub wet-hole-calls : List Call
-wet-hole-calls =
+-- the calls that write a plan down: four jobs, the first of them a check, and the bounds
+abbrev pub calls : ℤ → List Bound → List Call
+calls within more =
     Check empty-label
     ∷ Work (label 1 0)
     ∷ Work empty-label
     ∷ Work (label 0 1)
-    ∷ Between (least start wet (pos 60))
-    ∷ Between (least wet pump (pos 5))
-    ∷ Between (least pump grout (pos 90))
-    ∷ Between (most wet seal (pos 20))
-    ∷ Between (most seal grout (pos 10))
-    ∷ []
+    ∷ map Between (plan within more .bounds)
 
 -- a call is taken and answers a; or it is refused with a number, and the book is as before
 abbrev pub Taken : {A : Type 0} → Outcome A → A → Type 0

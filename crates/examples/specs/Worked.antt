@@ -2,12 +2,13 @@
 use mathlib.Core.Path.{_≡_}
 use mathlib.Core.List.{List, [], _∷_, map}
 use mathlib.Core.Bool.{Bool, true, false}
-use Prim.Native.Nat.{ℕ, zero, suc, _+_, _^_}
+use mathlib.Core.Logic.{_⊎_}
+use Prim.Native.Nat.{ℕ, _+_, _^_}
+use lib.Count.{ones}
 use lib.IntN.{ℤ, pos, negsuc}
 use Rattle.std.specs.declared.option.Option.{Option}
 use Rattle.std.specs.declared.option.Option.the-variants.{Some}
 use Rattle.std.specs.declared.result.Result.the-variants.{Ok}
-use Rattle.book.specs.Labels.{bit}
 use Rattle.book.specs.Plain.{Plain, cases, new-book, add-check, add-job, add-bound, withdraw}
 use Rattle.rules.specs.declared.parts.Origin.{Origin}
 use Rattle.rules.specs.declared.parts.Origin.the-variants.{Bound}
@@ -19,7 +20,7 @@ use Rattle.walks.specs.declared.parts.Event.{Event}
 use Rattle.walks.specs.declared.parts.Event.the-variants.{Told, Reported}
 use Rattle.walks.specs.Logs.{Lawful, Ended, all-told, last-minute}
 use Rattle.examples.specs.Plans.{label, least, most, start, wet, pump, grout, seal}
-use Rattle.examples.specs.Plans.{plan, wet-hole, wet-hole-calls, fed, answers, Taken, Refused, written, timetable}
+use Rattle.examples.specs.Plans.{plan, wet-hole, calls, fed, answers, Taken, Refused, written, timetable}
 
 -- no strategy of a grade
 abbrev pub Without : (Minutes → Type 0) → Type 0
@@ -42,8 +43,8 @@ pub record New-book : Type 0 where
 -- The plan is what its calls write down in a new book, and each answers the new number. It is dynamic and not strong: in a dry
 -- hole grout comes right after the look, in a wet one after the pumping.
 pub record Wet-hole : Type 0 where
-  pub answers-are : answers new-book wet-hole-calls ≡ Ok 1 ∷ Ok 2 ∷ Ok 3 ∷ Ok 4 ∷ Ok 0 ∷ Ok 1 ∷ Ok 2 ∷ Ok 3 ∷ Ok 4 ∷ []
-  pub plan-is : fed new-book wet-hole-calls ≡ wet-hole
+  pub answers-are : answers new-book (calls (pos 20) []) ≡ Ok 1 ∷ Ok 2 ∷ Ok 3 ∷ Ok 4 ∷ Ok 0 ∷ Ok 1 ∷ Ok 2 ∷ Ok 3 ∷ Ok 4 ∷ []
+  pub plan-is : fed new-book (calls (pos 20) []) ≡ wet-hole
   pub not-strong : Without (Strong wet-hole)
   pub loop : Loop (strong-system wet-hole) (1 ∷ 3 ∷ 4 ∷ 2 ∷ [])
   pub loop-of : origins (strong-origins wet-hole) (1 ∷ 3 ∷ 4 ∷ 2 ∷ []) ≡ Some (Bound 1) ∷ Some (Bound 3) ∷ Some (Bound 4) ∷ Some (Bound 2) ∷ []
@@ -83,10 +84,12 @@ abbrev pub tight : ℤ → Plain
 tight minutes = plan (pos 5) (least grout seal minutes ∷ [])
 
 pub record Tight-by-five : Type 0 where
+  pub plan-is : fed new-book (calls (pos 5) (least grout seal (pos 5) ∷ [])) ≡ tight (pos 5)
   pub weak : Earliest (tight (pos 5)) (Weak (tight (pos 5))) (timetable 0 61)
   pub not-dynamic : Without (Dynamic (tight (pos 5)))
 
 pub record Tight-by-four : Type 0 where
+  pub plan-is : fed new-book (calls (pos 5) (least grout seal (pos 4) ∷ [])) ≡ tight (pos 4)
   pub dynamic : Earliest (tight (pos 4)) (Dynamic (tight (pos 4))) (timetable 61 65)
 
 -- Minutes beyond three days are refused, and so is a bound between two jobs that exclude each other.
@@ -106,35 +109,33 @@ pub record Labels-taken : Type 0 where
   pub part-missing : Refused with-core (add-job with-core (label 2 0)) 5
   pub whole : Taken (add-job with-core (label 2 1)) 6
 
--- The run on the plan's sheet, told no and told yes. A log has the newest event first.
+-- events of a run: a telling of a minute with a set of jobs, and a report of whether the hole is wet
 abbrev pub told : ℕ → ℕ → Event
 told minute jobs = Told (record { minute = minute; jobs = jobs })
 
 abbrev pub reported : Bool → Event
 reported said = Reported (record { check = 0; yes = said })
 
--- how many of the first n jobs are in a set
-abbrev pub members : ℕ → ℕ → ℕ
-members zero jobs = 0
-members (suc n) jobs = bit jobs n + members n jobs
-
+-- the run on the plan's sheet where the report is no, and the one where it is yes; a log has the newest event first
 abbrev pub dry-run : List Event
 dry-run = told 61 (2 ^ grout + 2 ^ seal) ∷ reported false ∷ told 60 (2 ^ wet) ∷ told 0 (2 ^ start) ∷ []
 
 abbrev pub wet-run : List Event
 wet-run = told 155 (2 ^ grout) ∷ told 65 (2 ^ pump) ∷ reported true ∷ told 60 (2 ^ wet) ∷ told 0 (2 ^ start) ∷ []
 
+-- Each comes to its end with four jobs told, and no other run does.
 pub record Runs : Type 0 where
   pub dry-lawful : Lawful wet-hole (timetable 61 61) dry-run
   pub dry-ended : Ended wet-hole dry-run
-  pub dry-jobs : members 5 (all-told dry-run) ≡ 4
+  pub dry-jobs : ones (all-told dry-run) ≡ 4
   pub dry-last : last-minute dry-run ≡ Some 61
   pub wet-lawful : Lawful wet-hole (timetable 61 61) wet-run
   pub wet-ended : Ended wet-hole wet-run
-  pub wet-jobs : members 5 (all-told wet-run) ≡ 4
+  pub wet-jobs : ones (all-told wet-run) ≡ 4
   pub wet-last : last-minute wet-run ≡ Some 155
+  pub no-other : (log : List Event) → Lawful wet-hole (timetable 61 61) log → Ended wet-hole log → (log ≡ dry-run) ⊎ (log ≡ wet-run)
 
--- all of them
+-- The worked examples, all of them.
 pub record Worked : Type 0 where
   pub new-book : New-book
   pub wet-hole : Wet-hole
