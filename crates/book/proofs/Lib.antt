@@ -5,3 +5,4 @@ pub mod Rows
 pub mod Refused
 pub mod Grown
 pub mod Kept
+pub mod Always

@@ -5,3 +5,5 @@ pub mod Sound
 pub mod Single
 pub mod Held
 pub mod Done
+pub mod Fed
+pub mod Theorems

@@ -51,3 +51,21 @@ pub struct Table {
     pub jobs: Vec<Job>,
     pub bounds: Vec<Bound>,
 }
+
+// A call on a book, with what it is handed.
+#[derive(Clone, Copy)]
+pub enum Call {
+    AddJob(Label),
+    AddCheck(Label),
+    AddBound(Bound),
+    Withdraw(usize),
+}
+
+// What a call is answered: the number of what was added, or that it is done, or why it is refused.
+#[derive(Clone, Copy)]
+pub enum Answer {
+    NewJob(usize),
+    NewBound(usize),
+    Withdrawn,
+    Refused(Refusal),
+}

@@ -13,6 +13,7 @@ ghost use Rattle.book.specs.declared.parts.Refusal.the-variants.{UnknownCheck,
 ghost use Rattle.book.specs.Plain.{add-job, add-check, add-bound, withdraw};
 ghost use Rattle.book.specs.Room.{Roomy};
 ghost use Rattle.book.specs.Sound.{Sound};
+use crate::copying::refill;
 use crate::jobs::count_checks;
 use crate::jobs::place;
 use crate::labels::excludes;
@@ -20,7 +21,6 @@ use crate::labels::lacks_part;
 use crate::labels::names_check;
 use crate::labels::names_from;
 use crate::labels::wants_both;
-use crate::lists::refill;
 use crate::parts::Bound;
 use crate::parts::Job;
 use crate::parts::Label;

@@ -1,7 +1,7 @@
 use mathlib.Core.Path.{_≡_, ap, _∙_}
 use native.Mathlib.Omega.{arith}
 use Rattle.std.proofs.shelf.Lists.{take-more, take-all}
-use Rattle.book.proofs.lists.refill.Needs as need
+use Rattle.book.proofs.copying.refill.Needs as need
 
 pub loop-x-again : need.loop-x-again
 loop-x-again g c =

@@ -1,7 +1,7 @@
 use mathlib.Core.Path.{_≡_}
 use lib.ListN.{take}
 use Rattle.std.specs.Of.Vec.{vec-items, vec-cap, vec-len}
-use Rattle.book.proofs.lists.refill.Given as given
+use Rattle.book.proofs.copying.refill.Given as given
 
 abbrev pub Inv-loop-x : given.InvT-loop-x
 Inv-loop-x g l =

@@ -1,0 +1,5 @@
+use Rattle.book.proofs.Always.{checks-done}
+use Rattle.book.proofs.theorems.checks_done.Needs as need
+
+pub returns : need.returns
+returns c = checks-done
