@@ -7,9 +7,14 @@ use lib.ListN.{length, drop, getD}
 use lib.IntN.{ℤ, pos}
 use Rattle.std.specs.declared.result.Result.{Result}
 use Rattle.std.specs.declared.result.Result.the-variants.{Ok, Err}
+use Rattle.rules.specs.declared.parts.Origin.{Origin}
+use Rattle.rules.specs.declared.parts.Origin.the-variants.{Bound}
 use Rattle.rules.specs.Rules.{System, Keeps, Least, None-keeps}
+use Rattle.rules.specs.Loops.{Loop}
 use Rattle.find.specs.declared.answers.Found.{Found}
 use Rattle.find.specs.declared.answers.Found.the-variants.{Table, NoTable}
+use Rattle.find.specs.declared.answers.Explained.{Explained}
+use Rattle.find.specs.declared.answers.Explained.the-variants as explained
 use Rattle.find.specs.declared.answers.Refusal.{Refusal}
 use Rattle.find.specs.declared.answers.Refusal.the-variants.{MinutesShort, LoopShort}
 
@@ -35,3 +40,25 @@ Exact = (m : System) (before after : List ℤ) (r : Result Found Refusal) → Fi
     ((length before < m .places) ↔ (r ≡ Err MinutesShort))
     × (((m .places ≤ length before) × ∥ ((table : List ℕ) × Keeps m table) ∥₁) ↔ (r ≡ Ok Table))
     × (((m .places ≤ length before) × None-keeps m) ↔ (r ≡ Ok NoTable))
+
+-- the origin of rule r
+abbrev pub origin-of : List Origin → ℕ → Origin
+origin-of origins r = getD origins r (Bound 0)
+
+-- the origins of a loop of n rules stand first in the list, and the rest of it is as before
+abbrev pub Looped : System → List Origin → List Origin → List Origin → ℕ → Type 0
+Looped m origins before after n =
+    (rs : List ℕ) × Loop m rs × (length rs ≡ n) × (after ≡ map (origin-of origins) rs ++ drop n before)
+
+-- why there was no search: too few minutes, or else too short a list for a loop
+abbrev pub Too-short : System → ℕ → ℕ → Refusal → Type 0
+Too-short m minutes places MinutesShort = minutes < m .places
+Too-short m minutes places LoopShort = (m .places ≤ minutes) × (places < m .places)
+
+-- What `find_or_loop` answers: there is too little room, or a table keeps the rules, or none does and there is a loop.
+abbrev pub Explains : System → List Origin → List ℤ → List ℤ → List Origin → List Origin → Result Explained Refusal → Type 0
+Explains m origins before after list list′ (Ok explained.Table) =
+    (m .places ≤ length before) × (m .places ≤ length list) × Written m before after × (list′ ≡ list)
+Explains m origins before after list list′ (Ok (explained.Loop n)) =
+    (m .places ≤ length before) × (m .places ≤ length list) × None-keeps m × (after ≡ before) × Looped m origins list list′ n
+Explains m origins before after list list′ (Err e) = Too-short m (length before) (length list) e × (after ≡ before) × (list′ ≡ list)

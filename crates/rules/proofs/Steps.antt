@@ -7,7 +7,6 @@ use Prim.Native.Nat.{ℕ, zero, suc, _+_, _*_, _≤_, _<_}
 use native.Mathlib.Omega.{arith}
 use borrow.Author.Count.{below-more}
 use lib.ListN.{length, getD, set, take, drop, replicate}
-use lib.IntN.{ℤ, pos}
 use Rattle.std.specs.shelf.Lists.{sum}
 use Rattle.std.proofs.shelf.Lists.{getD-take, getD-past, length-take-le, length-map, length-set, drop-more, set-at, append-assoc, map-more}
 use Rattle.std.proofs.shelf.Elements.{all-from-getD}
@@ -87,7 +86,8 @@ module _ (m : System) (r : ℕ) (before now after : List ℕ) where
 pub sum-bound : (b : ℕ) (table : List ℕ) → ((p : ℕ) → at table p ≤ b) → sum table ≤ length table * b
 sum-bound b table low = sumBy-le (λ v. v) b table (all-from-getD (λ v. v ≤ b) table 0 (λ p _. low p))
 
-zero-at : (k p : ℕ) → at (replicate k 0) p ≡ 0
+-- a table of zeros
+pub zero-at : (k p : ℕ) → at (replicate k 0) p ≡ 0
 zero-at zero p = refl
 zero-at (suc k) zero = refl
 zero-at (suc k) (suc p) = zero-at k p
@@ -135,16 +135,16 @@ module _ (m : System) (sound : Sound m) (table : List ℕ) (wide : m .places ≤
     least = cut-under u;
   }
 
--- one number more is written
-pub written-more : (table : List ℕ) (entry minutes : List ℤ) (p : ℕ) → p < length table → p < length entry →
-    minutes ≡ map pos (take p table) ++ drop p entry → set minutes p (pos (at table p)) ≡ map pos (take (p + 1) table) ++ drop (p + 1) entry
-written-more table entry minutes p h i e =
-    let front = map pos (take p table) in
-    let rest = drop (p + 1) entry in
-    let v = pos (at table p) in
-    let sized : length front ≡ p = length-map (take p table) pos ∙ length-take-le p table (omega arith) in
-    let opened : minutes ≡ front ++ (getD entry p (pos 0) ∷ rest) = e ∙ ap (λ xs. front ++ xs) (drop-more entry p (pos 0) i) in
-    let put : set minutes p v ≡ front ++ (v ∷ rest) = ap (λ xs. set xs p v) opened ∙ set-at front (getD entry p (pos 0)) rest v p sized in
-    let joined : front ++ (v ∷ rest) ≡ map pos (take (p + 1) table) ++ rest =
-    sym (append-assoc front (v ∷ []) rest) ∙ ap (λ xs. xs ++ rest) (sym (map-more pos table p 0 h)) in
+-- one item more is written over the front of a list
+pub written-more : {X Y : Type 0} (f : X → Y) (xs : List X) (d : X) (entry here : List Y) (e : Y) (i : ℕ) → i < length xs → i < length entry →
+    here ≡ map f (take i xs) ++ drop i entry → set here i (f (getD xs i d)) ≡ map f (take (i + 1) xs) ++ drop (i + 1) entry
+written-more f xs d entry here e i h k is =
+    let front = map f (take i xs) in
+    let rest = drop (i + 1) entry in
+    let v = f (getD xs i d) in
+    let sized : length front ≡ i = length-map (take i xs) f ∙ length-take-le i xs (omega arith) in
+    let opened : here ≡ front ++ (getD entry i e ∷ rest) = is ∙ ap (λ ys. front ++ ys) (drop-more entry i e k) in
+    let put : set here i v ≡ front ++ (v ∷ rest) = ap (λ ys. set ys i v) opened ∙ set-at front (getD entry i e) rest v i sized in
+    let joined : front ++ (v ∷ rest) ≡ map f (take (i + 1) xs) ++ rest =
+    sym (append-assoc front (v ∷ []) rest) ∙ ap (λ ys. ys ++ rest) (sym (map-more f xs i d h)) in
     put ∙ joined

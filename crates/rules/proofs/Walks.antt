@@ -17,6 +17,7 @@ use Rattle.std.proofs.shelf.Sums.{sumBy-set, sumBy-le, sumBy-append}
 use Rattle.std.proofs.shelf.Tests.{cases-eq, cases-lt}
 use Rattle.rules.specs.Rules.{System, Sound, Keeps, at, rule, alternative}
 use Rattle.rules.specs.Search.{Leads, Traced, Barred, In}
+use Rattle.rules.proofs.Steps.{zero-at}
 use Rattle.rules.specs.Loops.{One-way, way, Chain, total, Loop, Stuck, Loop-bars}
 
 leads-int : (v u : ℕ) (w : ℤ) → Leads v u w → pos v ≤ℤ (pos u +ℤ w)
@@ -61,6 +62,12 @@ chain-kept m one other k (r ∷ rs) p q (h, held, rest) =
 
 pub loop-bars : Loop-bars
 loop-bars m rs one l other k = no-loop (at other (l .from)) (total m rs) (chain-kept m one other k rs (l .from) (l .from) (l .closes)) (l .above)
+
+-- the rules of a chain are rules of the system
+pub chain-known : (m : System) (rs : List ℕ) (p q : ℕ) → Chain m p rs q → (i : ℕ) → i < length rs → getD rs i 0 < length (m .rules)
+chain-known m [] p q e i h = absurd (omega arith)
+chain-known m (r ∷ rs) p q (known, _, rest) zero h = known
+chain-known m (r ∷ rs) p q (known, _, rest) (suc i) h = chain-known m rs (way m r .place) q rest i (omega arith)
 
 -- a chain of rules that raised the places they hold back
 abbrev pub Path : System → List ℕ → List ℕ → ℕ → List ℕ → ℕ → Type 0
@@ -139,6 +146,7 @@ count-le seen n le past =
 -- on the walk: the rules so far lead to the place p, and each place that they hold back has its number, from 1 on
 pub record Walking (m : System) (by seen out : List ℕ) (n p : ℕ) : Type 0 where
   pub stuck : Stuck m by p
+  pub place : p < m .places
   pub from : ℕ
   pub path : Path m (stuck .barred .heights) (stuck .barred .stamps) from (take n out) p
   pub numbered : (i : ℕ) → i < n → at seen (rule m (getD out i 0) .held) ≡ i + 1
@@ -149,16 +157,6 @@ pub record Walking (m : System) (by seen out : List ℕ) (n p : ℕ) : Type 0 wh
   pub room : n ≤ m .places
 
 module _ (m : System) (sound : Sound m) (by seen out : List ℕ) (n p : ℕ) (w : Walking m by seen out n p) where
-  bar : Barred m by (w .stuck .inside)
-  bar = w .stuck .barred
-
-  traced : Traced m (w .stuck .barred .heights) (w .stuck .barred .stamps) (at by p) p
-  traced = w .stuck .barred .traced p (w .stuck .here)
-
-  pub place-low : p < m .places
-  place-low = let t = w .stuck .barred .traced p (w .stuck .here) in let e : rule m (at by p) .held ≡ p = t .held in
-      omega (arith, e, sound .each (at by p) (t .within) .within)
-
   pub rule-low : at by p < length (m .rules)
   rule-low = w .stuck .barred .traced p (w .stuck .here) .within
 
@@ -167,12 +165,12 @@ module _ (m : System) (sound : Sound m) (by seen out : List ℕ) (n p : ℕ) (w 
     low-on : (q : ℕ) → 0 < at (set seen p (n + 1)) q → q < m .places
     low-on q h =
         ⊎-elim
-        (λ (e : q ≡ p). subst (λ x. x < m .places) (sym e) place-low)
+        (λ (e : q ≡ p). subst (λ x. x < m .places) (sym e) (w .place))
         (λ (ne : q ≢ p). w .low q (subst (λ v. 0 < v) (getD-set-other seen p q (n + 1) 0 ne) h))
         (cases-eq q p)
 
     within-seen : p < length seen
-    within-seen = omega (arith, place-low, sound .few, w .wide)
+    within-seen = omega (arith, w .place, sound .few, w .wide)
 
     count-on : seen-count (set seen p (n + 1)) ≡ n + 1
     count-on = let e = sumBy-set (λ v. min v 1) seen p (n + 1) 0 within-seen in omega (arith, e, new, w .count)
@@ -196,6 +194,7 @@ module _ (m : System) (sound : Sound m) (by seen out : List ℕ) (n p : ℕ) (w 
         here =
             w .stuck .barred .closed p (w .stuck .here) 0 (omega (arith, sound .each (at by p) rule-low .some));
       };
+      place = sound .each (at by p) rule-low .each 0 (omega (arith, sound .each (at by p) rule-low .some)) .within;
       from = w .from;
       path = subst (λ rs. Path m (w .stuck .barred .heights) (w .stuck .barred .stamps) (w .from) rs (way m (at by p) .place))
           (sym (take-more-set out n (at by p) (omega (arith, room-on))))
@@ -292,14 +291,14 @@ walks-cut m out n i le l =
     let on : i + (n - i) ≡ n = omega arith in
     subst (Loop m) (sym (ap (λ k. drop i (take k out)) on) ∙ drop-take i (n - i) out) l
 
-zero-at : (k p : ℕ) → at (replicate k 0) p ≡ 0
-zero-at zero p = refl
-zero-at (suc k) zero = refl
-zero-at (suc k) (suc p) = zero-at k p
-
-pub walks-from : (m : System) (by out : List ℕ) (p : ℕ) → Stuck m by p → Walking m by (replicate 320 0) out 0 p
-walks-from m by out p stuck = record {
+-- the walk begins at a place that is barred
+pub walks-from : (m : System) (sound : Sound m) (by out : List ℕ) (p : ℕ) → Stuck m by p → Walking m by (replicate 320 0) out 0 p
+walks-from m sound by out p stuck = record {
   stuck = stuck;
+  place =
+      let t = stuck .barred .traced p (stuck .here) in
+      let e : rule m (at by p) .held ≡ p = t .held in
+      omega (arith, e, sound .each (at by p) (t .within) .within);
   from = p;
   path = refl;
   numbered = λ i h. absurd (omega arith);

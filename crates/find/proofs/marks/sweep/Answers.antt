@@ -7,7 +7,8 @@ use borrow.Author.Needs.{needs}
 use Rattle.rules.specs.Search.{Peels, same, drops}
 use Rattle.rules.proofs.Peeling.{Sweeping, peels-in, sweeping-drops, sweeping-stays, not-both}
 use Rattle.find.proofs.marks.sweep.Needs as need
-use Rattle.find.proofs.marks.sweep.Needs.{then-inside-p·then-leads-out, else-inside-p, else-inside-p·by·then-inside-p·else-leads-out, else-inside-p·by·else-inside-p}
+use Rattle.find.proofs.marks.sweep.Needs.{then-inside-p·then-leads-out, else-inside-p}
+use Rattle.find.proofs.marks.sweep.Needs.{else-inside-p·by·then-inside-p·else-leads-out, else-inside-p·by·else-inside-p}
 
 pub loop-p-holds : need.loop-p-holds
 loop-p-holds g c = (same, (refl, λ k h. absurd (omega arith)))
