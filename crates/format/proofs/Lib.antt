@@ -1,8 +1,8 @@
 pub mod Cuts
 pub mod Steps
 pub mod Words
-mod Numbers
-mod Lines
+pub mod Numbers
+pub mod Lines
 mod Inks
 pub mod Sound
 mod Complete

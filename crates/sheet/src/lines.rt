@@ -7,8 +7,8 @@ ghost use Rattle.sheet.specs.Sheet.{verdict-line, grade-word, answer-word, job
 ghost use Prim.Native.Nat.{_+_, _*_, _<_, _≤_};
 ghost use lib.ListN.{length};
 use crate::grade::Grade;
-use crate::names::name;
 use crate::names::NamePlace;
+use crate::names::name;
 use std::alloc::AllocError;
 use std::alloc::Global;
 
@@ -31,7 +31,12 @@ fn answer_word(good: bool) -> &'static str
 }
 
 // Puts the line of a verdict.
-pub(crate) fn put_verdict(heap: Global, page: &mut Vec<u8>, grade: Grade, good: bool) -> Result<(), AllocError>
+pub(crate) fn put_verdict(
+    heap: Global,
+    page: &mut Vec<u8>,
+    grade: Grade,
+    good: bool,
+) -> Result<(), AllocError>
     ensures { λ r. ⌜ made r (λ _. vec-items (now (page .exit)) ≡ vec-items (now (page .entry)) ++ verdict-line grade good) ⌝ }
 {
     let grade = grade_word(grade);

@@ -14,6 +14,6 @@ use Rattle.sheet.proofs.lines.count_done.Needs.{then-minute-ge0, else-minute-g
 pub loop-minute-again : need.loop-minute-again
 loop-minute-again c =
     elim (c .if-minute-ge0 .came) [
-      then-minute-ge0 w ↦ let z = counts-one (getD (c .args .row .now) (c .loop-minute .minute-index) (pos 0)) (omega (arith, ints)) in rw (add-one (c .loop-minute .minute-index)) (omega (arith, w .count-is), omega (arith, w .count-is))
-    | else-minute-ge0 w ↦ let z = counts-none (getD (c .args .row .now) (c .loop-minute .minute-index) (pos 0)) (omega (arith, ints)) in rw (add-one (c .loop-minute .minute-index)) (omega (arith, w .count-is), omega (arith, w .count-is))
+      | then-minute-ge0 w ↦ let z = counts-one (getD (c .args .row .now) (c .loop-minute .minute-index) (pos 0)) (omega (arith, ints)) in rw (add-one (c .loop-minute .minute-index)) (omega (arith, w .count-is), omega (arith, w .count-is))
+      | else-minute-ge0 w ↦ let z = counts-none (getD (c .args .row .now) (c .loop-minute .minute-index) (pos 0)) (omega (arith, ints)) in rw (add-one (c .loop-minute .minute-index)) (omega (arith, w .count-is), omega (arith, w .count-is))
     ]

@@ -1,0 +1,3 @@
+pub mod Pieces
+pub mod Names
+pub mod Words
