@@ -80,7 +80,7 @@ module _ (b : Plain) (sound : Sound b) where
       few-below {A = Hold} (checks b) 4 1 (if-named j) (sound .few-checks) (λ c l. when-length (names (job b j .label) c) (check-hold b j c))) in
       omega (arith, x, y, z, length-append (bound-holds b) (start-holds b ++ check-holds b), length-append (start-holds b) (check-holds b))
 
-  in-few : (s : ℕ) (hs : List Hold) → length (holds-in b s hs) ≤ length hs
+  pub in-few : (s : ℕ) (hs : List Hold) → length (holds-in b s hs) ≤ length hs
   in-few s [] = omega arith
   in-few s (h ∷ hs) = omega (arith, length-append (when (due b s h) (h ∷ [])) (holds-in b s hs), when-length (due b s h) h, in-few s hs)
 
@@ -137,7 +137,7 @@ module _ (b : Plain) (sound : Sound b) where
   rules-fit n p inn [] e = tt
   rules-fit n p inn (h ∷ hs) e = (rule-fits n p inn h (e .0), rules-fit n p inn hs (e .1))
 
-  place-in : (s j : ℕ) → s < cases b → j < length (b .jobs) → place b s j < cases b * length (b .jobs)
+  pub place-in : (s j : ℕ) → s < cases b → j < length (b .jobs) → place b s j < cases b * length (b .jobs)
   place-in s j h i = digits-lt h i
 
   unknown-fits : (s t j : ℕ) → s < cases b → t < cases b → j < length (b .jobs) → Sound-rule (cases b * length (b .jobs)) (unknown-rule b s t j)
@@ -166,7 +166,7 @@ module _ (b : Plain) (sound : Sound b) where
       every-below P (length (b .jobs)) (if-unknown s t) (λ j i.
       every-when P (both-do b s t j) (unknown-rule b s t j) (λ _. unknown-fits s t j h g i)))))
 
-  few-places : cases b * length (b .jobs) ≤ 320
+  pub few-places : cases b * length (b .jobs) ≤ 320
   few-places = omega (arith, mul-le-mul-right (length (b .jobs)) few-cases, sound .few-jobs)
 
   some-places : 1 ≤ cases b * length (b .jobs)
