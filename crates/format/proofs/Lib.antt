@@ -3,7 +3,7 @@ pub mod Steps
 pub mod Words
 pub mod Numbers
 pub mod Lines
-mod Inks
+pub mod Inks
 pub mod Sound
 mod Complete
 pub mod OnLine

@@ -9,9 +9,13 @@ use lib.ListN.{length, getD, take, drop, length-append}
 use Rattle.std.specs.Written.{decimal}
 use Rattle.std.proofs.shelf.Decimals.{length-decimal-le}
 use Rattle.std.proofs.shelf.Lists.{getD-take, getD-drop}
+use Rattle.book.specs.Plain.{Plain, asking}
+use Rattle.book.specs.Sound.{Sound}
+use Rattle.rules.specs.declared.parts.Origin.{Origin}
+use Rattle.rules.specs.declared.parts.Origin.the-variants.{Bound, Start, Check}
 use Rattle.sheet.specs.declared.grade.Grade.{Grade}
 use Rattle.sheet.specs.declared.grade.Grade.the-variants.{Strong, Dynamic, Weak}
-use Rattle.sheet.specs.Sheet.{line, grade-word, job-line, job-lines, jobs-done, one-if-done, row-of, case-lines, cases-lines, table-lines}
+use Rattle.sheet.specs.Sheet.{line, grade-word, job-line, job-lines, jobs-done, one-if-done, row-of, case-lines, cases-lines, table-lines, Within, origin-line, origin-lines, loop-lines}
 
 -- a minute that 31 bits hold
 abbrev pub Small : ℤ → Type 0
@@ -72,4 +76,29 @@ table-fits g name jobs minutes cases few l names small =
     let lines = cases-fit name jobs minutes cases few l names small in
     let a = digits-2 cases (omega arith) in
     let w = grade-fits g in
+    simp length-append (omega arith)
+
+pub origin-fits : (b : Plain) (name : ℕ → List ℕ) (o : Origin) → Sound b → ((j : ℕ) → j < length (b .jobs) → length (name j) ≤ 8) → Within b o
+    → length (origin-line b name o) ≤ 24
+origin-fits b name (Bound n) s names h = let d = digits-2 n (omega (arith, s .few-bounds)) in simp length-append (omega arith)
+origin-fits b name (Start j) s names h = let a = names j h in simp length-append (omega arith)
+origin-fits b name (Check c j) s names h =
+    let a = names (asking b c) (s .asked c (h .0) .0) in
+    let d = names j (h .1) in
+    simp length-append (omega arith)
+
+pub origins-fit : (b : Plain) (name : ℕ → List ℕ) (origins : List Origin) (n : ℕ) → Sound b → ((j : ℕ) → j < length (b .jobs) → length (name j) ≤ 8)
+    → ((i : ℕ) → i < n → Within b (getD origins i (Bound 0))) → length (origin-lines b name origins n) ≤ 24 * n
+origins-fit b name origins zero s names h = omega arith
+origins-fit b name origins (suc n) s names h =
+    let more = origins-fit b name origins n s names (λ i l. h i (omega arith)) in
+    let one = origin-fits b name (getD origins n (Bound 0)) s names (h n (omega arith)) in
+    rw (length-append (origin-lines b name origins n) (origin-line b name (getD origins n (Bound 0)))) (omega arith)
+
+pub loop-fits : (b : Plain) (name : ℕ → List ℕ) (case : ℕ) (origins : List Origin) → Sound b → ((j : ℕ) → j < length (b .jobs) → length (name j) ≤ 8)
+    → ((i : ℕ) → i < length origins → Within b (getD origins i (Bound 0))) → case < 100 → length origins ≤ 20 → length (loop-lines b name case origins) ≤ 497
+loop-fits b name case origins s names h l few =
+    let lines = origins-fit b name origins (length origins) s names h in
+    let a = digits-2 case l in
+    let d = digits-2 (length origins) (omega arith) in
     simp length-append (omega arith)

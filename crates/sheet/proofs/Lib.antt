@@ -1,2 +1,4 @@
 mod Fits
+mod Origins
+mod Placed
 mod Rows

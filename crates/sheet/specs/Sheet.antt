@@ -6,9 +6,14 @@ use lib.Chars.{codes}
 use lib.IntN.{ℤ, pos, negsuc}
 use lib.ListN.{length, getD, take, drop}
 use Rattle.std.specs.Written.{decimal}
+use Rattle.book.specs.Plain.{Plain, asking, checks}
 use Rattle.rules.specs.declared.parts.Origin.{Origin}
 use Rattle.rules.specs.declared.parts.Origin.the-variants.{Bound, Start, Check}
-use Rattle.sheet.specs.declared.names.NamePlace.{NamePlace}
+use Rattle.format.specs.declared.parts.Fault.{Fault}
+use Rattle.format.specs.declared.parts.NamePlace.{NamePlace}
+use Rattle.format.specs.declared.parts.Reason.{Reason}
+use Rattle.format.specs.declared.parts.Reason.the-variants.{File, Book}
+use Rattle.format.specs.Faults.{reason-number}
 use Rattle.sheet.specs.declared.grade.Grade.{Grade}
 use Rattle.sheet.specs.declared.grade.Grade.the-variants.{Strong, Dynamic, Weak}
 
@@ -17,6 +22,15 @@ abbrev pub line : List (List ℕ) → List ℕ
 line [] = 10 ∷ []
 line (w ∷ []) = w ++ (10 ∷ [])
 line (w ∷ (v ∷ vs)) = w ++ (32 ∷ line (v ∷ vs))
+
+-- the line of a fault: its layer, its number, its line and its byte
+abbrev pub layer-word : Reason → List ℕ
+layer-word (File f) = codes "file"
+layer-word (Book r) = codes "book"
+
+abbrev pub fault-line : Fault → List ℕ
+fault-line f =
+    line (codes "fault" ∷ layer-word (f .reason) ∷ decimal (reason-number (f .reason)) ∷ codes "line" ∷ decimal (f .line) ∷ codes "byte" ∷ decimal (f .byte) ∷ [])
 
 abbrev pub grade-word : Grade → List ℕ
 grade-word Strong = codes "strong"
@@ -67,27 +81,33 @@ abbrev pub table-lines : Grade → (ℕ → List ℕ) → ℕ → List ℤ → �
 table-lines g name jobs minutes cases =
     (line (codes "table" ∷ grade-word g ∷ []) ++ line (codes "cases" ∷ decimal cases ∷ [])) ++ cases-lines name jobs minutes cases
 
--- the line of a rule's origin: a bound, the start rule of a job, or the rule that a job waits for a check (check is the check's own job)
-abbrev pub origin-line : (ℕ → List ℕ) → (ℕ → ℕ) → Origin → List ℕ
-origin-line name asking (Bound n) = line (codes "bound" ∷ decimal n ∷ [])
-origin-line name asking (Start j) = line (codes "start" ∷ name j ∷ [])
-origin-line name asking (Check c j) = line (codes "check" ∷ name (asking c) ∷ name j ∷ [])
+-- the line of a rule's origin: a bound by its number, a job's start rule, or the rule that a job waits for a check
+abbrev pub origin-line : Plain → (ℕ → List ℕ) → Origin → List ℕ
+origin-line b name (Bound n) = line (codes "bound" ∷ decimal n ∷ [])
+origin-line b name (Start j) = line (codes "start" ∷ name j ∷ [])
+origin-line b name (Check c j) = line (codes "check" ∷ name (asking b c) ∷ name j ∷ [])
 
-abbrev pub origin-lines : (ℕ → List ℕ) → (ℕ → ℕ) → List Origin → List ℕ
-origin-lines name asking [] = []
-origin-lines name asking (o ∷ os) = origin-line name asking o ++ origin-lines name asking os
+abbrev pub origin-lines : Plain → (ℕ → List ℕ) → List Origin → ℕ → List ℕ
+origin-lines b name origins zero = []
+origin-lines b name origins (suc n) = origin-lines b name origins n ++ origin-line b name (getD origins n (Bound 0))
 
--- a failing case and a loop of its rules
-abbrev pub loop-lines : (ℕ → List ℕ) → (ℕ → ℕ) → ℕ → List Origin → List ℕ
-loop-lines name asking s origins =
-    (line (codes "fails" ∷ decimal s ∷ []) ++ line (codes "loop" ∷ decimal (length origins) ∷ [])) ++ origin-lines name asking origins
+-- a failing case, and a loop of its rules
+abbrev pub loop-lines : Plain → (ℕ → List ℕ) → ℕ → List Origin → List ℕ
+loop-lines b name s origins =
+    (line (codes "fails" ∷ decimal s ∷ []) ++ line (codes "loop" ∷ decimal (length origins) ∷ [])) ++ origin-lines b name origins (length origins)
+
+-- an origin names a bound, jobs and a check of the book
+abbrev pub Within : Plain → Origin → Type 0
+Within b (Bound i) = i < length (b .bounds)
+Within b (Start j) = j < length (b .jobs)
+Within b (Check c j) = (c < checks b) × (j < length (b .jobs))
 
 -- the name of a job: `start` has its own, the others' stand in the text
 abbrev pub no-place : NamePlace
-no-place = record { place = 0; length = 0 }
+no-place = record { byte = 0; length = 0 }
 
 abbrev pub name-at : List ℕ → NamePlace → List ℕ
-name-at text p = take (p .length) (drop (p .place) text)
+name-at text p = take (p .length) (drop (p .byte) text)
 
 abbrev pub name-of : List ℕ → List NamePlace → ℕ → List ℕ
 name-of text places zero = codes "start"
@@ -95,7 +115,7 @@ name-of text places (suc j) = name-at text (getD places j no-place)
 
 -- the names of the jobs below n stand in the text, none with more than 8 letters
 pub record Name-in (text : List ℕ) (p : NamePlace) : Type 0 where
-  pub within : p .place + p .length ≤ length text
+  pub within : p .byte + p .length ≤ length text
   pub short : p .length ≤ 8
 
 pub record Named (text : List ℕ) (places : List NamePlace) (n : ℕ) : Type 0 where

@@ -1,4 +1,5 @@
 // From a plan text to its printed sheet.
 pub mod grade;
 mod lines;
-pub mod names;
+mod names;
+mod numbers;

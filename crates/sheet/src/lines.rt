@@ -1,16 +1,51 @@
 // The lines of a sheet, each put at the end of the text so far.
 ghost use mathlib.Core.Path.{_≡_};
-ghost use mathlib.Core.List.{_++_};
+ghost use mathlib.Core.List.{[], _∷_, _++_};
+ghost use lib.Chars.{codes};
 ghost use Rattle.std.specs.Of.Vec.{vec-items};
 ghost use Rattle.std.specs.Vec.{made};
-ghost use Rattle.sheet.specs.Sheet.{verdict-line, grade-word, answer-word, job-line, job-lines, jobs-done, case-lines, cases-lines, table-lines, name-of, Named};
-ghost use Prim.Native.Nat.{_+_, _*_, _<_, _≤_};
-ghost use lib.ListN.{length};
+ghost use Rattle.book.specs.Plain.{asking, checks};
+ghost use Rattle.book.specs.Held.{held};
+ghost use Rattle.rules.specs.declared.parts.Origin.the-variants.{Bound as OfBound};
+ghost use Rattle.sheet.specs.Sheet.{line, origin-line, origin-lines, loop-lines, Within};
+ghost use Rattle.sheet.specs.Sheet.{layer-word, fault-line, verdict-line, grade-word, answer-word, job-line, job-lines, jobs-done, case-lines, cases-lines, table-lines, name-of, Named};
+ghost use Prim.Native.Nat.{ℕ, _+_, _*_, _<_, _≤_};
+ghost use lib.ListN.{length, getD};
 use crate::grade::Grade;
-use crate::names::NamePlace;
 use crate::names::name;
+use crate::numbers::fault_number;
+use book::keeping::Book;
+use format::parts::Fault;
+use format::parts::NamePlace;
+use format::parts::Reason;
+use rules::parts::Origin;
 use std::alloc::AllocError;
 use std::alloc::Global;
+
+// The word of a fault's layer.
+fn layer_word(reason: Reason) -> &'static str
+    ensures { λ r. ⌜ now r ≡ layer-word reason ⌝ }
+{
+    match reason {
+        Reason::File(_) => "file",
+        Reason::Book(_) => "book",
+    }
+}
+
+// Puts the line of a fault.
+pub(crate) fn put_fault(heap: Global, page: &mut Vec<u8>, fault: Fault) -> Result<(), AllocError>
+    ensures { λ r. ⌜ made r (λ _. vec-items (now (page .exit)) ≡ vec-items (now (page .entry)) ++ fault-line fault) ⌝ }
+{
+    let layer = layer_word(fault.reason);
+    let number = fault_number(fault.reason);
+    let Fault {
+        reason: _,
+        line,
+        byte,
+    } = fault;
+    let text = format!(heap, "fault {layer} {number} line {line} byte {byte}\n")?;
+    page.extend_from_slice(text.as_bytes())
+}
 
 // The word of a grade.
 fn grade_word(grade: Grade) -> &'static str
@@ -153,5 +188,115 @@ pub(crate) fn put_table(
     let head = format!(heap, "table {grade}\ncases {cases}\n")?;
     page.extend_from_slice(head.as_bytes())?;
     put_cases(heap, page, text, places, jobs, minutes, cases)?;
+    Ok(())
+}
+
+// Puts a name, and ends its line.
+fn put_name(page: &mut Vec<u8>, name: &[u8]) -> Result<(), AllocError>
+    ensures { λ r. ⌜ made r (λ _. vec-items (now (page .exit)) ≡ vec-items (now (page .entry)) ++ line (now (name .entry) ∷ [])) ⌝ }
+{
+    page.extend_from_slice(name)?;
+    page.extend_from_slice(b"\n")?;
+    Ok(())
+}
+
+// Puts the line of a start rule.
+fn put_start(page: &mut Vec<u8>, job: &[u8]) -> Result<(), AllocError>
+    ensures { λ r. ⌜ made r (λ _. vec-items (now (page .exit)) ≡ vec-items (now (page .entry)) ++ line (codes "start" ∷ now (job .entry) ∷ [])) ⌝ }
+{
+    page.extend_from_slice(b"start ")?;
+    put_name(page, job)?;
+    Ok(())
+}
+
+// Puts the line of a rule that a job waits for a check.
+fn put_check(page: &mut Vec<u8>, check: &[u8], job: &[u8]) -> Result<(), AllocError>
+    ensures { λ r. ⌜ made r (λ _. vec-items (now (page .exit)) ≡
+        vec-items (now (page .entry)) ++ line (codes "check" ∷ now (check .entry) ∷ now (job .entry) ∷ [])) ⌝ }
+{
+    page.extend_from_slice(b"check ")?;
+    page.extend_from_slice(check)?;
+    page.extend_from_slice(b" ")?;
+    put_name(page, job)?;
+    Ok(())
+}
+
+// The name of a check.
+fn check_name<'a>(book: &Book, text: &'a [u8], places: &[NamePlace], check: usize) -> &'a [u8]
+    requires named { ⌜ Named (now text) (now places) (length (held (now book) .jobs)) ⌝ }
+    requires known { ⌜ check < checks (held (now book)) ⌝ }
+    ensures { λ r. ⌜ now r ≡ name-of (now (text .entry)) (now (places .entry)) (asking (held (now (book .entry))) check) ⌝ }
+{
+    let asking = book.check_job(check as u8).unwrap();
+    name(text, places, asking)
+}
+
+// Puts the line of an origin.
+fn put_origin(
+    heap: Global,
+    page: &mut Vec<u8>,
+    book: &Book,
+    text: &[u8],
+    places: &[NamePlace],
+    origin: Origin,
+) -> Result<(), AllocError>
+    requires named { ⌜ Named (now text) (now places) (length (held (now book) .jobs)) ⌝ }
+    requires known { ⌜ Within (held (now book)) origin ⌝ }
+    ensures { λ r. ⌜ made r (λ _. vec-items (now (page .exit)) ≡
+        vec-items (now (page .entry)) ++ origin-line (held (now (book .entry))) (name-of (now (text .entry)) (now (places .entry))) origin) ⌝ }
+{
+    match origin {
+        Origin::Bound(n) => {
+            let line = format!(heap, "bound {n}\n")?;
+            page.extend_from_slice(line.as_bytes())
+        }
+        Origin::Start(job) => put_start(page, name(text, places, job)),
+        Origin::Check(check, job) => put_check(
+            page,
+            check_name(book, text, places, check),
+            name(text, places, job),
+        ),
+    }
+}
+
+// Puts the lines of origins.
+fn put_origins(
+    heap: Global,
+    page: &mut Vec<u8>,
+    book: &Book,
+    text: &[u8],
+    places: &[NamePlace],
+    origins: &[Origin],
+) -> Result<(), AllocError>
+    requires named { ⌜ Named (now text) (now places) (length (held (now book) .jobs)) ⌝ }
+    requires known { ⌜ ((i : ℕ) → i < length (now origins) → Within (held (now book)) (getD (now origins) i (OfBound 0))) ⌝ }
+    ensures { λ r. ⌜ made r (λ _. vec-items (now (page .exit)) ≡
+        vec-items (now (page .entry)) ++ origin-lines (held (now (book .entry))) (name-of (now (text .entry)) (now (places .entry))) (now (origins .entry)) (length (now (origins .entry)))) ⌝ }
+{
+    for (i, origin) in origins.iter().enumerate() {
+        put_origin(heap, page, book, text, places, *origin)?;
+    }
+    Ok(())
+}
+
+// Puts a failing case and a loop of its rules.
+pub(crate) fn put_loop(
+    heap: Global,
+    page: &mut Vec<u8>,
+    book: &Book,
+    text: &[u8],
+    places: &[NamePlace],
+    case: u8,
+    origins: &[Origin],
+) -> Result<(), AllocError>
+    requires named { ⌜ Named (now text) (now places) (length (held (now book) .jobs)) ⌝ }
+    requires known { ⌜ ((i : ℕ) → i < length (now origins) → Within (held (now book)) (getD (now origins) i (OfBound 0))) ⌝ }
+    ensures { λ r. ⌜ made r (λ _. vec-items (now (page .exit)) ≡
+        vec-items (now (page .entry)) ++ loop-lines (held (now (book .entry))) (name-of (now (text .entry)) (now (places .entry))) case (now (origins .entry))) ⌝ }
+{
+    let long = origins.len();
+    let head = format!(heap, "fails {case}\nloop {long}\n")?;
+    page.extend_from_slice(head.as_bytes())?;
+    put_origins(heap, page, book, text, places, origins)?;
     Ok(())
 }

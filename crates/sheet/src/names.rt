@@ -1,13 +1,8 @@
-// The names of a plan's jobs, as places in its text.
+// The names of a plan's jobs.
 ghost use mathlib.Core.Path.{_≡_};
 ghost use Prim.Native.Nat.{suc};
 ghost use Rattle.sheet.specs.Sheet.{name-of, Named};
-
-#[derive(Clone, Copy)]
-pub struct NamePlace {
-    pub place: usize,
-    pub length: usize,
-}
+use format::parts::NamePlace;
 
 // The name of a job; `start` has none in the text.
 pub(crate) fn name<'a>(text: &'a [u8], places: &[NamePlace], job: usize) -> &'a [u8]
@@ -17,6 +12,6 @@ pub(crate) fn name<'a>(text: &'a [u8], places: &[NamePlace], job: usize) -> &'a 
     if job == 0 {
         return b"start";
     }
-    let NamePlace { place, length } = places[job - 1];
-    &text[place..place + length]
+    let NamePlace { byte, length } = places[job - 1];
+    &text[byte..byte + length]
 }
