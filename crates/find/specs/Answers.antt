@@ -34,13 +34,6 @@ Finds m before after (Ok Table) = (m .places ≤ length before) × Written m bef
 Finds m before after (Ok NoTable) = (m .places ≤ length before) × None-keeps m × (after ≡ before)
 Finds m before after (Err e) = (e ≡ MinutesShort) × (length before < m .places) × (after ≡ before)
 
--- so each answer comes exactly when it is said to
-abbrev pub Exact : Type 0
-Exact = (m : System) (before after : List ℤ) (r : Result Found Refusal) → Finds m before after r →
-    ((length before < m .places) ↔ (r ≡ Err MinutesShort))
-    × (((m .places ≤ length before) × ∥ ((table : List ℕ) × Keeps m table) ∥₁) ↔ (r ≡ Ok Table))
-    × (((m .places ≤ length before) × None-keeps m) ↔ (r ≡ Ok NoTable))
-
 -- the origin of rule r
 abbrev pub origin-of : List Origin → ℕ → Origin
 origin-of origins r = getD origins r (Bound 0)
@@ -62,3 +55,23 @@ Explains m origins before after list list′ (Ok explained.Table) =
 Explains m origins before after list list′ (Ok (explained.Loop n)) =
     (m .places ≤ length before) × (m .places ≤ length list) × None-keeps m × (after ≡ before) × Looped m origins list list′ n
 Explains m origins before after list list′ (Err e) = Too-short m (length before) (length list) e × (after ≡ before) × (list′ ≡ list)
+
+-- some table keeps all rules
+abbrev pub Some-keeps : System → Type 0
+Some-keeps m = ∥ ((table : List ℕ) × Keeps m table) ∥₁
+
+-- so each answer of `find` comes exactly when it is said to
+abbrev pub Find-exact : Type 0
+Find-exact = (m : System) (before after : List ℤ) (r : Result Found Refusal) → Finds m before after r →
+    ((length before < m .places) ↔ (r ≡ Err MinutesShort))
+    × (((m .places ≤ length before) × Some-keeps m) ↔ (r ≡ Ok Table))
+    × (((m .places ≤ length before) × None-keeps m) ↔ (r ≡ Ok NoTable))
+
+-- and each answer of `find_or_loop`
+abbrev pub Loop-exact : Type 0
+Loop-exact = (m : System) (origins : List Origin) (before after : List ℤ) (list list′ : List Origin) (r : Result Explained Refusal) →
+    Explains m origins before after list list′ r →
+    ((length before < m .places) ↔ (r ≡ Err MinutesShort))
+    × (((m .places ≤ length before) × (length list < m .places)) ↔ (r ≡ Err LoopShort))
+    × (((m .places ≤ length before) × (m .places ≤ length list) × Some-keeps m) ↔ (r ≡ Ok explained.Table))
+    × (((m .places ≤ length before) × (m .places ≤ length list) × None-keeps m) ↔ ((n : ℕ) × (r ≡ Ok (explained.Loop n))))

@@ -14,3 +14,4 @@ pub use answers::Refusal;
 pub use loops::find_or_loop;
 pub use tables::find;
 pub use theorems::answers_exactly;
+pub use theorems::explains_exactly;

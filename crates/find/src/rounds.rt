@@ -1,5 +1,4 @@
 // Rounds over the rules, which raise places and record the rule that raised each.
-ghost use mathlib.Core.Path.{_≡_};
 ghost use Prim.Native.Nat.{_+_, _<_};
 ghost use lib.ListN.{length};
 ghost use Rattle.rules.specs.Rules.{rule, Kept};

@@ -1,5 +1,4 @@
 // Whether rows are sound.
-ghost use mathlib.Core.Path.{_≡_};
 ghost use Rattle.std.specs.Orderings.{Decides};
 ghost use Rattle.rules.specs.Rules.{Sound, Sound-rule, Sound-alternative};
 ghost use Rattle.rules.specs.Rows.{system-of, rule-of, step-of};

@@ -13,7 +13,7 @@ use Rattle.std.proofs.shelf.Elements.{all-from-getD}
 use Rattle.std.proofs.shelf.Tests.{cases-lt}
 use Rattle.std.proofs.shelf.Sums.{sumBy-set, sumBy-le}
 use Rattle.rules.specs.Rules.{Rule, System, Sound, Kept, Keeps, Least, at, rule, alternative}
-use Rattle.rules.specs.Search.{asked, asked-by, Least-asked, Good, All-kept}
+use Rattle.rules.specs.Search.{asked-by, Least-asked, Good, All-kept}
 use Rattle.rules.proofs.Asked.{asked-le, le-asked, asked-mono, asked-high}
 use Rattle.rules.proofs.Record.{at-set, recorded-more}
 

@@ -1,7 +1,6 @@
 -- Chains of rules, and the walk that ends in a loop.
 use mathlib.Core.Path.{_≡_, refl, sym, ap, subst, _∙_}
 use mathlib.Core.Logic.{_⊎_, inl, inr, ⊎-elim, _≢_}
-use mathlib.Core.Bool.{Bool}
 use mathlib.Core.List.{List, [], _∷_, _++_}
 use Prim.Native.Nat.{ℕ, zero, suc, _+_, _-_, _*_, _≤_, _<_, min}
 use native.Mathlib.Omega.{arith}
@@ -16,7 +15,7 @@ use Rattle.std.proofs.shelf.Elements.{all-from-getD}
 use Rattle.std.proofs.shelf.Sums.{sumBy-set, sumBy-le, sumBy-append}
 use Rattle.std.proofs.shelf.Tests.{cases-eq, cases-lt}
 use Rattle.rules.specs.Rules.{System, Sound, Keeps, at, rule, alternative}
-use Rattle.rules.specs.Search.{Leads, Traced, Barred, In}
+use Rattle.rules.specs.Search.{Leads, Traced}
 use Rattle.rules.proofs.Steps.{zero-at}
 use Rattle.rules.specs.Loops.{One-way, way, Chain, total, Loop, Stuck, Loop-bars}
 

@@ -1,8 +1,6 @@
 use mathlib.Core.Path.{_≡_, ap, subst, _∙_}
-use mathlib.Core.List.{List, _++_, map}
-use Prim.Native.Nat.{ℕ}
+use mathlib.Core.List.{_++_, map}
 use native.Mathlib.Omega.{arith}
-use borrow.Author.Needs.{needs}
 use lib.ListN.{length, set, take, drop}
 use Rattle.std.proofs.shelf.Lists.{take-all}
 use Rattle.rules.specs.declared.parts.Origin.the-variants.{Bound}

@@ -1,4 +1,3 @@
-use Prim.Native.Nat.{_<_, _≤_}
 use native.Mathlib.Omega.{arith}
 use Rattle.rules.proofs.Peeling.{marked-more, marked-all}
 use Rattle.find.proofs.marks.mark.Needs as need

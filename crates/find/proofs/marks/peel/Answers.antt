@@ -1,4 +1,3 @@
-use native.Mathlib.Omega.{arith}
 use borrow.Author.Needs.{needs}
 use Rattle.rules.specs.Search.{same}
 use Rattle.rules.proofs.Peeling.{peels-in, peels-on}

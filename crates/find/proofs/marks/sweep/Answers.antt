@@ -3,7 +3,6 @@ use mathlib.Core.Bool.{Bool}
 use mathlib.Core.List.{List}
 use Prim.Native.Nat.{_+_}
 use native.Mathlib.Omega.{arith}
-use borrow.Author.Needs.{needs}
 use Rattle.rules.specs.Search.{Peels, same, drops}
 use Rattle.rules.proofs.Peeling.{Sweeping, peels-in, sweeping-drops, sweeping-stays, not-both}
 use Rattle.find.proofs.marks.sweep.Needs as need

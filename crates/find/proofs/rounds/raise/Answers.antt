@@ -1,11 +1,10 @@
 use mathlib.Core.Path.{_≡_, refl, sym, subst}
-use Prim.Native.Nat.{ℕ, _+_, _*_, _≤_, _<_}
-use lib.ListN.{length, set}
+use Prim.Native.Nat.{_+_, _≤_, _<_}
+use lib.ListN.{set}
 use Rattle.std.specs.shelf.Lists.{sum}
 use Rattle.rules.specs.Rules.{at, rule}
 use Rattle.rules.specs.Search.{Good}
 use native.Mathlib.Omega.{arith}
-use borrow.Author.Needs.{needs}
 use Rattle.rules.proofs.Steps.{stays, rises, grows, good-on}
 use Rattle.find.proofs.rounds.raise.Needs as need
 

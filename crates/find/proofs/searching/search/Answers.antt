@@ -2,7 +2,6 @@ use mathlib.Core.Path.{_≡_, sym, subst}
 use Prim.Native.Nat.{ℕ, _+_, _*_, _≤_}
 use native.Mathlib.Omega.{arith}
 use lib.ListN.{length}
-use borrow.Author.Needs.{needs}
 use Rattle.std.specs.shelf.Lists.{sum}
 use Rattle.rules.specs.Rules.{at}
 use Rattle.rules.specs.Search.{All-kept}

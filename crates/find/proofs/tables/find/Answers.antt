@@ -1,7 +1,7 @@
 use mathlib.Core.Path.{_≡_, refl, subst}
 use mathlib.Core.List.{_++_, map}
 use native.Mathlib.Omega.{arith}
-use Prim.Native.Nat.{ℕ, _≤_}
+use Prim.Native.Nat.{_≤_}
 use lib.ListN.{length, take, drop, replicate}
 use lib.IntN.{pos}
 use Rattle.rules.specs.Rules.{at}

@@ -1,7 +1,7 @@
 use mathlib.Core.Path.{_≡_, ap, _∙_}
 use native.Mathlib.Omega.{arith}
 use lib.ListN.{set}
-use lib.IntN.{ℤ, pos}
+use lib.IntN.{pos}
 use mir.Val.{toZ}
 use mir.Syntax.{w32}
 use Rattle.std.proofs.shelf.Signed.{ints}
