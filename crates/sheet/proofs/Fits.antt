@@ -5,22 +5,19 @@ use Prim.Native.Nat.{ℕ, zero, suc, _+_, _*_, _^_, _≤_, _<_}
 use native.Mathlib.Omega.{arith}
 use lib.Chars.{codes}
 use lib.IntN.{ℤ, pos, negsuc}
-use lib.ListN.{length, getD, take, drop, length-append}
+use native.Mathlib.Numerals.{add-one}
+use lib.ListN.{length, getD, drop, length-append, length-take}
+use lib.Signed.{mag}
 use Rattle.std.specs.Written.{decimal}
 use Rattle.std.proofs.shelf.Decimals.{length-decimal-le}
-use Rattle.std.proofs.shelf.Lists.{getD-take, getD-drop}
+use Rattle.format.specs.declared.parts.NamePlace.{NamePlace}
 use Rattle.book.specs.Plain.{Plain, asking}
 use Rattle.book.specs.Sound.{Sound}
 use Rattle.rules.specs.declared.parts.Origin.{Origin}
 use Rattle.rules.specs.declared.parts.Origin.the-variants.{Bound, Start, Check}
 use Rattle.sheet.specs.declared.grade.Grade.{Grade}
 use Rattle.sheet.specs.declared.grade.Grade.the-variants.{Strong, Dynamic, Weak}
-use Rattle.sheet.specs.Sheet.{line, grade-word, job-line, job-lines, jobs-done, one-if-done, row-of, case-lines, cases-lines, table-lines, Within, origin-line, origin-lines, loop-lines}
-
--- a minute that 31 bits hold
-abbrev pub Small : ℤ → Type 0
-Small (pos m) = m < 2 ^ 31
-Small (negsuc m) = Unit {0}
+use Rattle.sheet.specs.Sheet.{line, grade-word, job-line, job-lines, jobs-done, one-if-done, row-of, case-lines, cases-lines, table-lines, Within, origin-line, origin-lines, loop-lines, no-place, name-of, Named}
 
 pub digits-2 : (n : ℕ) → n < 100 → length (decimal n) ≤ 2
 digits-2 n h = length-decimal-le 2 n (omega arith) h (omega arith)
@@ -28,55 +25,56 @@ digits-2 n h = length-decimal-le 2 n (omega arith) h (omega arith)
 pub digits-10 : (n : ℕ) → n < 2 ^ 31 → length (decimal n) ≤ 10
 digits-10 n h = length-decimal-le 10 n (omega arith) (omega arith) (omega arith)
 
-pub job-fits : (name : List ℕ) (z : ℤ) → length name ≤ 8 → Small z → length (job-line name z) ≤ 20
-job-fits name (pos m) n h = let d = digits-10 m h in simp length-append (omega arith)
-job-fits name (negsuc m) n h = omega arith
+pub job-fits : (name : List ℕ) (z : ℤ) → mag z < 2 ^ 31 → length name ≤ 8 → length (job-line name z) ≤ 20
+job-fits name (pos m) h n = let d = digits-10 m h in simp length-append (omega arith)
+job-fits name (negsuc m) h n = omega arith
 
-pub jobs-fit : (name : ℕ → List ℕ) (row : List ℤ) (n : ℕ) → ((j : ℕ) → j < n → (length (name j) ≤ 8) × Small (getD row j (pos 0))) → length (job-lines name row n) ≤ 20 * n
-jobs-fit name row zero h = omega arith
-jobs-fit name row (suc n) h =
-    let more = jobs-fit name row n (λ j l. h j (omega arith)) in
-    let one = job-fits (name n) (getD row n (pos 0)) (h n (omega arith) .0) (h n (omega arith) .1) in
-    simp length-append (omega arith)
+pub jobs-fit : (name : ℕ → List ℕ) (row : List ℤ) (i : ℕ) (n : List ℕ) (z : ℤ) → length (job-lines name row i) ≤ 20 * i → n ≡ name i → z ≡ getD row i (pos 0)
+    → length (job-line n z) ≤ 20 → length (job-lines name row (i + 1)) ≤ 20 * (i + 1)
+jobs-fit name row i n z more p q one =
+    let line : length (job-line (name i) (getD row i (pos 0))) ≤ 20 = rw (p, q) at one in
+    rw (add-one i) (rw (length-append (job-lines name row i) (job-line (name i) (getD row i (pos 0)))) (omega arith))
 
-pub done-few : (z : ℤ) → one-if-done z ≤ 1
+done-few : (z : ℤ) → one-if-done z ≤ 1
 done-few (pos m) = omega arith
 done-few (negsuc m) = omega arith
 
-pub done-below : (row : List ℤ) (n : ℕ) → jobs-done row n ≤ n
+done-below : (row : List ℤ) (n : ℕ) → jobs-done row n ≤ n
 done-below row zero = omega arith
 done-below row (suc n) = let more = done-below row n in let one = done-few (getD row n (pos 0)) in omega arith
 
-pub case-fits : (name : ℕ → List ℕ) (jobs s : ℕ) (row : List ℤ) → jobs ≤ 20 → s < 100
-    → ((j : ℕ) → j < jobs → (length (name j) ≤ 8) × Small (getD row j (pos 0))) → length (case-lines name jobs s row) ≤ 16 + 20 * jobs
-case-fits name jobs s row few l h =
-    let lines = jobs-fit name row jobs h in
+pub case-fits : (name : ℕ → List ℕ) (jobs s : ℕ) (row : List ℤ) → jobs ≤ 20 → s < 16 → length (job-lines name row jobs) ≤ 20 * jobs
+    → length (case-lines name jobs s row) ≤ 416
+case-fits name jobs s row few l lines =
     let count = done-below row jobs in
-    let a = digits-2 s l in
+    let a = digits-2 s (omega arith) in
     let b = digits-2 (jobs-done row jobs) (omega arith) in
     simp length-append (omega arith)
 
-pub cases-fit : (name : ℕ → List ℕ) (jobs : ℕ) (minutes : List ℤ) (n : ℕ) → jobs ≤ 20 → n ≤ 16
-    → ((j : ℕ) → j < jobs → length (name j) ≤ 8) → ((i : ℕ) → Small (getD minutes i (pos 0))) → length (cases-lines name jobs minutes n) ≤ 416 * n
-cases-fit name jobs minutes zero few l names small = omega arith
-cases-fit name jobs minutes (suc n) few l names small =
-    let more = cases-fit name jobs minutes n few (omega arith) names small in
-    let at-row : (j : ℕ) → j < jobs → (length (name j) ≤ 8) × Small (getD (row-of minutes jobs n) j (pos 0)) = λ j h. (names j h, rw (getD-take jobs (drop (n * jobs) minutes) j (pos 0) h, getD-drop (n * jobs) minutes j (pos 0)) (small (n * jobs + j))) in
-    let one = case-fits name jobs n (row-of minutes jobs n) few (omega arith) at-row in
-    rw (length-append (cases-lines name jobs minutes n) (case-lines name jobs n (row-of minutes jobs n))) (omega arith)
+pub cases-fit : (name : ℕ → List ℕ) (jobs : ℕ) (minutes : List ℤ) (s k : ℕ) (row : List ℤ) → length (cases-lines name jobs minutes s) ≤ 416 * s
+    → row ≡ row-of minutes jobs s → k ≡ jobs → length (case-lines name k s row) ≤ 416 → length (cases-lines name jobs minutes (s + 1)) ≤ 416 * (s + 1)
+cases-fit name jobs minutes s k row more p q one =
+    let lines : length (case-lines name jobs s (row-of minutes jobs s)) ≤ 416 = rw (p, q) at one in
+    rw (add-one s) (rw (length-append (cases-lines name jobs minutes s) (case-lines name jobs s (row-of minutes jobs s))) (omega arith))
 
 pub grade-fits : (g : Grade) → length (grade-word g) ≤ 7
 grade-fits Strong = omega arith
 grade-fits Dynamic = omega arith
 grade-fits Weak = omega arith
 
-pub table-fits : (g : Grade) (name : ℕ → List ℕ) (jobs : ℕ) (minutes : List ℤ) (cases : ℕ) → jobs ≤ 20 → cases ≤ 16
-    → ((j : ℕ) → j < jobs → length (name j) ≤ 8) → ((i : ℕ) → Small (getD minutes i (pos 0))) → length (table-lines g name jobs minutes cases) ≤ 6679
-table-fits g name jobs minutes cases few l names small =
-    let lines = cases-fit name jobs minutes cases few l names small in
+pub table-fits : (g : Grade) (name : ℕ → List ℕ) (jobs : ℕ) (minutes : List ℤ) (cases : ℕ) → cases ≤ 16 → length (cases-lines name jobs minutes cases) ≤ 416 * cases
+    → length (table-lines g name jobs minutes cases) ≤ 6679
+table-fits g name jobs minutes cases l lines =
     let a = digits-2 cases (omega arith) in
     let w = grade-fits g in
     simp length-append (omega arith)
+
+-- the names of a plan are short
+pub name-short : (text : List ℕ) (places : List NamePlace) (n j : ℕ) → Named text places n → j < n → length (name-of text places j) ≤ 8
+name-short text places n zero h l = omega arith
+name-short text places n (suc j) h l =
+    let p = getD places j no-place in
+    omega (arith, h .each j l .short, length-take (p .length) (drop (p .byte) text))
 
 pub origin-fits : (b : Plain) (name : ℕ → List ℕ) (o : Origin) → Sound b → ((j : ℕ) → j < length (b .jobs) → length (name j) ≤ 8) → Within b o
     → length (origin-line b name o) ≤ 24

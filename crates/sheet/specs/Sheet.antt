@@ -6,6 +6,8 @@ use lib.Chars.{codes}
 use lib.IntN.{ℤ, pos, negsuc}
 use lib.ListN.{length, getD, take, drop}
 use Rattle.std.specs.Written.{decimal}
+use Rattle.std.specs.declared.option.Option.{Option}
+use Rattle.std.specs.declared.option.Option.the-variants.{Some, None}
 use Rattle.book.specs.Plain.{Plain, asking, checks}
 use Rattle.rules.specs.declared.parts.Origin.{Origin}
 use Rattle.rules.specs.declared.parts.Origin.the-variants.{Bound, Start, Check}
@@ -95,6 +97,17 @@ origin-lines b name origins (suc n) = origin-lines b name origins n ++ origin-li
 abbrev pub loop-lines : Plain → (ℕ → List ℕ) → ℕ → List Origin → List ℕ
 loop-lines b name s origins =
     (line (codes "fails" ∷ decimal s ∷ []) ++ line (codes "loop" ∷ decimal (length origins) ∷ [])) ++ origin-lines b name origins (length origins)
+
+-- the strongest grade with a yes
+abbrev pub strongest : Bool → Bool → Bool → Option Grade
+strongest true dynamic weak = Some Strong
+strongest false true weak = Some Dynamic
+strongest false false true = Some Weak
+strongest false false false = None
+
+-- the three verdicts
+abbrev pub verdict-lines : Bool → Bool → Bool → List ℕ
+verdict-lines strong dynamic weak = (verdict-line Strong strong ++ verdict-line Dynamic dynamic) ++ verdict-line Weak weak
 
 -- an origin names a bound, jobs and a check of the book
 abbrev pub Within : Plain → Origin → Type 0

@@ -7,7 +7,7 @@ ghost use Rattle.std.specs.Vec.{made};
 ghost use Rattle.book.specs.Plain.{asking, checks};
 ghost use Rattle.book.specs.Held.{held};
 ghost use Rattle.rules.specs.declared.parts.Origin.the-variants.{Bound as OfBound};
-ghost use Rattle.sheet.specs.Sheet.{line, origin-line, origin-lines, loop-lines, Within};
+ghost use Rattle.sheet.specs.Sheet.{line, strongest, verdict-lines, origin-line, origin-lines, loop-lines, Within};
 ghost use Rattle.sheet.specs.Sheet.{layer-word, fault-line, verdict-line, grade-word, answer-word, job-line, job-lines, jobs-done, case-lines, cases-lines, table-lines, name-of, Named};
 ghost use Prim.Native.Nat.{ℕ, _+_, _*_, _<_, _≤_};
 ghost use lib.ListN.{length, getD};
@@ -66,12 +66,7 @@ fn answer_word(good: bool) -> &'static str
 }
 
 // Puts the line of a verdict.
-pub(crate) fn put_verdict(
-    heap: Global,
-    page: &mut Vec<u8>,
-    grade: Grade,
-    good: bool,
-) -> Result<(), AllocError>
+fn put_verdict(heap: Global, page: &mut Vec<u8>, grade: Grade, good: bool) -> Result<(), AllocError>
     ensures { λ r. ⌜ made r (λ _. vec-items (now (page .exit)) ≡ vec-items (now (page .entry)) ++ verdict-line grade good) ⌝ }
 {
     let grade = grade_word(grade);
@@ -80,9 +75,41 @@ pub(crate) fn put_verdict(
     page.extend_from_slice(line.as_bytes())
 }
 
+// Puts the lines of the three verdicts.
+pub(crate) fn put_verdicts(
+    heap: Global,
+    page: &mut Vec<u8>,
+    strong: bool,
+    dynamic: bool,
+    weak: bool,
+) -> Result<(), AllocError>
+    ensures { λ r. ⌜ made r (λ _. vec-items (now (page .exit)) ≡ vec-items (now (page .entry)) ++ verdict-lines strong dynamic weak) ⌝ }
+{
+    put_verdict(heap, page, Grade::Strong, strong)?;
+    put_verdict(heap, page, Grade::Dynamic, dynamic)?;
+    put_verdict(heap, page, Grade::Weak, weak)?;
+    Ok(())
+}
+
+// The strongest grade with a yes.
+pub(crate) fn strongest(strong: bool, dynamic: bool, weak: bool) -> Option<Grade>
+    ensures { λ r. ⌜ r ≡ strongest strong dynamic weak ⌝ }
+{
+    if strong {
+        Some(Grade::Strong)
+    } else if dynamic {
+        Some(Grade::Dynamic)
+    } else if weak {
+        Some(Grade::Weak)
+    } else {
+        None
+    }
+}
+
 // Puts the line of a job, where it is done.
 fn put_job(heap: Global, page: &mut Vec<u8>, name: &[u8], minute: i32) -> Result<(), AllocError>
-    ensures { λ r. ⌜ made r (λ _. vec-items (now (page .exit)) ≡ vec-items (now (page .entry)) ++ job-line (now (name .entry)) minute) ⌝ }
+    ensures put { λ r. ⌜ made r (λ _. vec-items (now (page .exit)) ≡ vec-items (now (page .entry)) ++ job-line (now (name .entry)) minute) ⌝ }
+    ensures short { λ r. ⌜ made r (λ _. length (now (name .entry)) ≤ 8 → length (job-line (now (name .entry)) minute) ≤ 20) ⌝ }
 {
     if minute < 0 {
         return Ok(());
@@ -102,8 +129,9 @@ fn put_jobs(
     row: &[i32],
 ) -> Result<(), AllocError>
     requires named { ⌜ Named (now text) (now places) (length (now row)) ⌝ }
-    ensures { λ r. ⌜ made r (λ _. vec-items (now (page .exit)) ≡
+    ensures put { λ r. ⌜ made r (λ _. vec-items (now (page .exit)) ≡
         vec-items (now (page .entry)) ++ job-lines (name-of (now (text .entry)) (now (places .entry))) (now (row .entry)) (length (now (row .entry)))) ⌝ }
+    ensures short { λ r. ⌜ made r (λ _. length (job-lines (name-of (now (text .entry)) (now (places .entry))) (now (row .entry)) (length (now (row .entry)))) ≤ 20 * length (now (row .entry))) ⌝ }
 {
     for (job, minute) in row.iter().enumerate() {
         put_job(heap, page, name(text, places, job), *minute)?;
@@ -134,8 +162,11 @@ fn put_case(
     row: &[i32],
 ) -> Result<(), AllocError>
     requires named { ⌜ Named (now text) (now places) (length (now row)) ⌝ }
-    ensures { λ r. ⌜ made r (λ _. vec-items (now (page .exit)) ≡
+    requires few { ⌜ length (now row) ≤ 20 ⌝ }
+    requires below { ⌜ case < 16 ⌝ }
+    ensures put { λ r. ⌜ made r (λ _. vec-items (now (page .exit)) ≡
         vec-items (now (page .entry)) ++ case-lines (name-of (now (text .entry)) (now (places .entry))) (length (now (row .entry))) case (now (row .entry))) ⌝ }
+    ensures short { λ r. ⌜ made r (λ _. length (case-lines (name-of (now (text .entry)) (now (places .entry))) (length (now (row .entry))) case (now (row .entry))) ≤ 416) ⌝ }
 {
     let count = count_done(row);
     let line = format!(heap, "case {case} jobs {count}\n")?;
@@ -156,9 +187,11 @@ fn put_cases(
 ) -> Result<(), AllocError>
     requires named { ⌜ Named (now text) (now places) jobs ⌝ }
     requires few { ⌜ jobs ≤ 20 ⌝ }
+    requires below { ⌜ cases ≤ 16 ⌝ }
     requires enough { ⌜ cases * jobs ≤ length (now minutes) ⌝ }
-    ensures { λ r. ⌜ made r (λ _. vec-items (now (page .exit)) ≡
+    ensures put { λ r. ⌜ made r (λ _. vec-items (now (page .exit)) ≡
         vec-items (now (page .entry)) ++ cases-lines (name-of (now (text .entry)) (now (places .entry))) jobs (now (minutes .entry)) cases) ⌝ }
+    ensures short { λ r. ⌜ made r (λ _. length (cases-lines (name-of (now (text .entry)) (now (places .entry))) jobs (now (minutes .entry)) cases) ≤ 416 * cases) ⌝ }
 {
     for case in 0..cases {
         let from = case * jobs;
@@ -180,9 +213,11 @@ pub(crate) fn put_table(
 ) -> Result<(), AllocError>
     requires named { ⌜ Named (now text) (now places) jobs ⌝ }
     requires few { ⌜ jobs ≤ 20 ⌝ }
+    requires below { ⌜ cases ≤ 16 ⌝ }
     requires enough { ⌜ cases * jobs ≤ length (now minutes) ⌝ }
-    ensures { λ r. ⌜ made r (λ _. vec-items (now (page .exit)) ≡
+    ensures put { λ r. ⌜ made r (λ _. vec-items (now (page .exit)) ≡
         vec-items (now (page .entry)) ++ table-lines grade (name-of (now (text .entry)) (now (places .entry))) jobs (now (minutes .entry)) cases) ⌝ }
+    ensures short { λ r. ⌜ made r (λ _. length (table-lines grade (name-of (now (text .entry)) (now (places .entry))) jobs (now (minutes .entry)) cases) ≤ 6679) ⌝ }
 {
     let grade = grade_word(grade);
     let head = format!(heap, "table {grade}\ncases {cases}\n")?;

@@ -4,6 +4,7 @@ use native.Mathlib.Omega.{arith}
 use borrow.Author.Needs.{needs}
 use lib.ListN.{length, take, drop, length-take, length-drop}
 use Rattle.sheet.specs.Sheet.{name-of}
+use Rattle.sheet.proofs.Fits.{cases-fit}
 use Rattle.sheet.proofs.Rows.{row-fits, case-more}
 use Rattle.sheet.proofs.lines.put_cases.Needs as need
 
@@ -21,4 +22,6 @@ loop-case-again c =
     let r = row-fits s (c .args .cases) jobs (omega arith) in
     let wide : (s * jobs + jobs) - s * jobs ≡ jobs = omega arith in
     let long : length (take ((s * jobs + jobs) - s * jobs) (drop (s * jobs) minutes)) ≡ jobs = simp (length-take, length-drop) (omega arith) in
-    case-more (name-of (c .args .text .now) (c .args .places .now)) jobs minutes s _ _ _ _ _ (c .loop-case .inv) (ap (λ n. take n (drop (s * jobs) minutes)) wide) long (c .in-Continue-put-case .ensures tt)
+    let name = name-of (c .args .text .now) (c .args .places .now) in
+    let row = ap (λ n. take n (drop (s * jobs) minutes)) wide in
+    (case-more name jobs minutes s _ _ _ _ _ (c .loop-case .inv .0) row long (c .in-Continue-put-case .ensures tt .put), cases-fit name jobs minutes s _ _ (c .loop-case .inv .1) row long (c .in-Continue-put-case .ensures tt .short))
