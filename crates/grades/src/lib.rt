@@ -1,5 +1,6 @@
 // The tables that keep the rules of a plan are its strategies: each theorem is named by a call's contract.
 pub mod holds;
+
 ghost use Rattle.grades.specs.Theorems.{Strong-tables, Weak-tables, Dynamic-tables, Grades-in-order, Systems-sound, Runs-alike};
 
 // The tables of the strong rules are the strong strategies, and the least is the earliest.

@@ -1,0 +1,5 @@
+pub mod Adding
+pub mod Asked
+pub mod Between
+pub mod Due
+pub mod Reading
