@@ -8,7 +8,7 @@ use lib.ListN.{length, getD, take, drop}
 use Rattle.std.specs.Written.{decimal}
 use Rattle.std.specs.declared.option.Option.{Option}
 use Rattle.std.specs.declared.option.Option.the-variants.{Some, None}
-use Rattle.book.specs.Plain.{Plain, asking, checks}
+use Rattle.book.specs.Plain.{Plain, asking, checks, cases}
 use Rattle.rules.specs.declared.parts.Origin.{Origin}
 use Rattle.rules.specs.declared.parts.Origin.the-variants.{Bound, Start, Check}
 use Rattle.format.specs.declared.parts.Fault.{Fault}
@@ -108,6 +108,15 @@ strongest false false false = None
 -- the three verdicts
 abbrev pub verdict-lines : Bool → Bool → Bool → List ℕ
 verdict-lines strong dynamic weak = (verdict-line Strong strong ++ verdict-line Dynamic dynamic) ++ verdict-line Weak weak
+
+-- what follows the verdicts: the table of the strongest grade with a yes, or a failing case with a loop
+abbrev pub rest-lines : Plain → (ℕ → List ℕ) → Option Grade → List ℤ → ℕ → List Origin → List ℕ
+rest-lines b name (Some g) minutes case origins = table-lines g name (length (b .jobs)) minutes (cases b)
+rest-lines b name None minutes case origins = loop-lines b name case origins
+
+abbrev pub plan-lines : Plain → (ℕ → List ℕ) → Bool → Bool → Bool → List ℤ → ℕ → List Origin → List ℕ
+plan-lines b name strong dynamic weak minutes case origins =
+    verdict-lines strong dynamic weak ++ rest-lines b name (strongest strong dynamic weak) minutes case origins
 
 -- an origin names a bound, jobs and a check of the book
 abbrev pub Within : Plain → Origin → Type 0

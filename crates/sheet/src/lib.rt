@@ -3,3 +3,4 @@ pub mod grade;
 mod lines;
 mod names;
 mod numbers;
+mod plan;
