@@ -86,14 +86,14 @@ impl Book {
     pub fn cases(&self) -> u8
         ensures { λ r. ⌜ r ≡ cases (held (now (self .entry))) ⌝ }
     {
-        1 << self.table.checks()
+        1 << self.checks()
     }
 
     // The job that is check c, if there is one.
     pub fn check_job(&self, c: u8) -> Option<usize>
         ensures { λ r. ⌜ r ≡ check-job (held (now (self .entry))) c ⌝ }
     {
-        let j = place(self.table.jobs.as_slice(), c);
+        let j = place(self.jobs(), c);
         if j < self.table.jobs.len() {
             Some(j)
         } else {

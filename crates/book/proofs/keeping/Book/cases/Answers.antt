@@ -5,9 +5,6 @@ use Rattle.std.proofs.shelf.Bits.{one-shl}
 use Rattle.book.specs.Held.{held-sound}
 use Rattle.book.proofs.keeping.Book.cases.Needs as need
 
-pub checks-requires : need.checks-requires
-checks-requires c κs = record { sound = held-sound (c .args .self .now) }
-
 pub shl-result : need.shl-result
 shl-result c = omega (arith, c .checks .ensures, held-sound (c .args .self .now) .few-checks)
 
