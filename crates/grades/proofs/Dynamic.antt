@@ -12,11 +12,11 @@ use Rattle.std.specs.Iters.{counting}
 use Rattle.std.proofs.shelf.Bits.{div-mul-add, mod-mul-add, pow-pos}
 use Rattle.std.proofs.shelf.Counted.{getD-map-counting, length-map-counting}
 use Rattle.book.specs.Labels.{bit, names, Names}
-use Rattle.book.specs.Plain.{Plain, job, checks, cases, asking, Case, Done}
+use Rattle.book.specs.Plain.{Plain, job, checks, cases, asking, Done}
 use Rattle.book.specs.Sound.{Sound}
 use Rattle.book.specs.Done.{done}
 use Rattle.rules.specs.Rules.{Keeps, Least, at}
-use Rattle.grades.specs.Grades.{Minutes, delay, Counts, Agrees, Dynamic, Earliest}
+use Rattle.grades.specs.Grades.{Minutes, delay, Counts, Agrees, Dynamic}
 use Rattle.grades.specs.Systems.{place, dynamic-system, reads, From-zero}
 use Rattle.grades.specs.Theorems.{Alike, Dynamic-theorem, Dynamic-tables, Grades-in-order}
 use Rattle.grades.proofs.Core.{Tells, look, settled, waiting}

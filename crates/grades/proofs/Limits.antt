@@ -1,5 +1,4 @@
 -- The three systems are rule systems: few places, rules and alternatives, and no more minutes than a bound may have.
-use mathlib.Core.Path.{_≡_}
 use mathlib.Core.Bool.{Bool, true, false, not}
 use mathlib.Core.List.{List, [], _∷_, _++_, map}
 use Prim.Native.Nat.{ℕ, zero, suc, _+_, _*_, _≤_, _<_}

@@ -1,14 +1,14 @@
 -- The rules as properties of minutes: what it is to keep the list of rules.
-use mathlib.Core.Path.{_≡_, refl, sym}
-use mathlib.Core.Bool.{Bool, true, false, not}
-use mathlib.Core.List.{List, [], _∷_, _++_, map}
+use mathlib.Core.Path.{_≡_}
+use mathlib.Core.Bool.{not}
+use mathlib.Core.List.{List, [], _∷_, _++_}
 use mathlib.Core.Logic.{_⊎_, inl, inr, ⊎-elim}
-use Prim.Native.Nat.{ℕ, zero, suc, _+_, _≤_, _<_}
+use Prim.Native.Nat.{ℕ, _+_, _≤_, _<_}
 use native.Mathlib.Omega.{arith}
 use native.Mathlib.Decide.{ℕ-discrete}
 use lib.ListN.{length}
 use lib.Dec.{eqb}
-use lib.IntN.{ℤ, pos, negℤ, _+ℤ_}
+use lib.IntN.{ℤ, pos, _+ℤ_}
 use lib.Signed.{_≤ℤ_}
 use Rattle.std.proofs.shelf.Signed.{ints}
 use Rattle.book.specs.declared.parts.Kind.{Kind}
@@ -25,7 +25,7 @@ use Rattle.grades.specs.Systems.{each-below, when, due, hold-of, bound-hold, s
 use Rattle.grades.specs.Systems.{bound-holds, start-holds, check-holds-of, check-holds}
 use Rattle.grades.specs.Systems.{holds, holds-in, rule-of, weak-rules, case-rules, place, telling, tells-apart, both-do}
 use Rattle.grades.specs.Systems.{unknown-rule, unknown-between, unknown-from, unknown-rules, dynamic-rules, dynamic-system, reads}
-use Rattle.grades.proofs.Core.{Tells, Waits}
+use Rattle.grades.proofs.Core.{Waits}
 use Rattle.grades.proofs.Lists.{Every, Some-of, every-at, at-every, some-at, at-some, every-append, every-left, every-right, every-below, below-every}
 use Rattle.grades.proofs.Lists.{some-below, below-some, every-when, when-every, some-when, when-some, every-map, map-every, every-like}
 use Rattle.book.proofs.Tests.{names-decides}

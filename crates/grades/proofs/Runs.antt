@@ -1,13 +1,13 @@
 -- Cases that agree on what is known so far are alike so far.
 use mathlib.Core.Path.{_≡_, sym, _∙_}
-use mathlib.Core.Logic.{_⊎_, inl, inr}
-use Prim.Native.Nat.{ℕ, zero, suc, _+_, _≤_, _<_}
+use mathlib.Core.Logic.{inl, inr}
+use Prim.Native.Nat.{ℕ, zero, suc, _≤_, _<_}
 use native.Mathlib.Omega.{arith}
 use lib.ListN.{length}
 use Rattle.book.specs.Labels.{bit, Names}
-use Rattle.book.specs.Plain.{Plain, job, checks, asking, Case, Done}
+use Rattle.book.specs.Plain.{Plain, job, asking, Case, Done}
 use Rattle.book.specs.Sound.{Sound}
-use Rattle.grades.specs.Grades.{Minutes, known-at, Dynamic}
+use Rattle.grades.specs.Grades.{Minutes, Dynamic}
 use Rattle.grades.specs.Theorems.{Agrees-up-to, Follows, Runs-alike}
 use Rattle.grades.proofs.Props.{delay-some}
 use Rattle.grades.proofs.Strategies.{check-done}

@@ -1,7 +1,7 @@
 -- A system with one place for each job, lowered so that `start` is at 0.
 use mathlib.Core.Path.{_≡_, _∙_}
 use mathlib.Core.List.{List, map}
-use Prim.Native.Nat.{ℕ, _+_, _-_, _≤_, _<_}
+use Prim.Native.Nat.{ℕ, _-_}
 use native.Mathlib.Omega.{arith}
 use lib.ListN.{length, length-map}
 use Rattle.book.specs.Plain.{Plain, bound}

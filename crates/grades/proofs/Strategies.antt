@@ -1,12 +1,10 @@
 -- Strategies as minutes that keep the holds of each case, and minutes lowered by one number.
-use mathlib.Core.Path.{_≡_, ap, subst, _∙_}
+use mathlib.Core.Path.{_≡_, ap, subst}
 use mathlib.Core.List.{List, map}
-use mathlib.Core.Logic.{_⊎_, inl, inr}
-use Prim.Native.Nat.{ℕ, _+_, _-_, _≤_, _<_}
+use Prim.Native.Nat.{ℕ, _+_, _-_, _<_}
 use native.Mathlib.Omega.{arith}
 use lib.ListN.{length, getD, List·getD-map}
-use lib.IntN.{ℤ, pos, _+ℤ_}
-use lib.Signed.{_≤ℤ_}
+use lib.IntN.{ℤ}
 use Rattle.std.proofs.shelf.Signed.{ints}
 use Rattle.book.specs.declared.parts.Kind.{Kind}
 use Rattle.book.specs.declared.parts.Kind.the-variants.{Least, Most}

@@ -1,21 +1,21 @@
 -- The tables of the strong system are the strong strategies.
 use mathlib.Core.Path.{_≡_, refl, _∙_}
 use mathlib.Core.List.{List, map}
-use mathlib.Core.Logic.{_⊎_, inl, inr}
-use Prim.Native.Nat.{ℕ, _+_, _%_, _^_, _≤_, _<_, max}
+use mathlib.Core.Logic.{inl, inr}
+use Prim.Native.Nat.{ℕ, _%_, _^_, _<_, max}
 use native.Mathlib.Omega.{arith}
 use lib.Bits.{bitOr}
 use lib.ListN.{length}
 use Rattle.std.specs.Iters.{counting}
 use Rattle.std.proofs.shelf.Bits.{mod-below, pow-pos}
 use Rattle.std.proofs.shelf.Counted.{getD-map-counting, length-map-counting}
-use Rattle.book.specs.Labels.{bit, Names, Wants-yes, Wants-no, Exclude}
+use Rattle.book.specs.Labels.{bit, Names, Wants-yes, Exclude}
 use Rattle.book.specs.Plain.{Plain, job, bound, checks, asking, Case, Done}
 use Rattle.book.specs.Sound.{Sound}
 use Rattle.rules.specs.declared.parts.Origin.{Origin}
 use Rattle.rules.specs.declared.parts.Origin.the-variants.{Bound, Start, Check}
 use Rattle.rules.specs.Rules.{Keeps, Kept, Least, at, no-rule}
-use Rattle.grades.specs.Grades.{Minutes, Keeps-bound, Strong, Earliest}
+use Rattle.grades.specs.Grades.{Minutes, Keeps-bound, Strong}
 use Rattle.grades.specs.Systems.{holds, rule-of, strong-system, strong-reads}
 use Rattle.grades.specs.Theorems.{Alike, Strong-theorem, Strong-tables}
 use Rattle.book.proofs.Bits.{bit-or}

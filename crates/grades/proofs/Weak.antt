@@ -2,7 +2,7 @@
 use mathlib.Core.Path.{_≡_, ap, _∙_}
 use mathlib.Core.Bool.{cond}
 use mathlib.Core.List.{List, [], map}
-use Prim.Native.Nat.{ℕ, _+_, _≤_, _<_}
+use Prim.Native.Nat.{ℕ, _<_}
 use native.Mathlib.Omega.{arith}
 use native.Mathlib.Decide.{decLt}
 use lib.ListN.{length}
@@ -12,7 +12,7 @@ use Rattle.book.specs.Plain.{Plain, cases, Case, Done}
 use Rattle.book.specs.Sound.{Sound}
 use Rattle.book.specs.Done.{done}
 use Rattle.rules.specs.Rules.{Keeps, Kept, Least, at, no-rule}
-use Rattle.grades.specs.Grades.{Minutes, Counts, Weak, Earliest}
+use Rattle.grades.specs.Grades.{Minutes, Counts, Weak}
 use Rattle.grades.specs.Systems.{weak-system, weak-rules, strong-reads, weak-reads}
 use Rattle.grades.specs.Theorems.{Alike-in, Weak-theorem, Weak-tables}
 use Rattle.grades.proofs.Lists.{every-at, at-every}

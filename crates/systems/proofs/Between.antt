@@ -8,7 +8,7 @@ use Rattle.book.specs.Plain.{Plain, asking}
 use Rattle.rules.specs.declared.parts.Alternative.{Alternative}
 use Rattle.rules.specs.Rules.{Rule}
 use Rattle.grades.specs.Grades.{delay}
-use Rattle.grades.specs.Systems.{each-below, when, place, tells-apart}
+use Rattle.grades.specs.Systems.{each-below, when, place, tells-apart, both-do, unknown-rule}
 
 -- the alternative by check c, where it tells s from t
 abbrev pub told : Plain → ℕ → ℕ → Alternative
@@ -16,6 +16,10 @@ told b s c = record { place = place b s (asking b c); minutes = pos (delay b c) 
 
 abbrev pub told-if : Plain → ℕ → ℕ → ℕ → List Alternative
 told-if b s t c = when (tells-apart b s t c) (told b s c ∷ [])
+
+-- the rule of job j between s and t, where both do it
+abbrev pub unknown-if : Plain → ℕ → ℕ → ℕ → List Rule
+unknown-if b s t j = when (both-do b s t j) (unknown-rule b s t j ∷ [])
 
 -- a rule that begins with one alternative
 abbrev pub begun : ℕ → Alternative → List Alternative → Rule

@@ -1,9 +1,8 @@
 -- The holds that are due in a case, hold by hold.
-use mathlib.Core.Path.{_≡_, refl, sym, ap, ap₂, _∙_}
+use mathlib.Core.Path.{_≡_, refl, sym, ap, _∙_}
 use mathlib.Core.Bool.{Bool, true, false, not, _&&_}
 use mathlib.Core.List.{List, [], _∷_, _++_, map, append-nil, append-assoc}
 use Prim.Native.Nat.{ℕ, zero, suc, _<_}
-use native.Mathlib.Omega.{arith}
 use lib.Dec.{eqb}
 use lib.IntN.{ℤ, pos}
 use lib.ListN.{length, getD}
@@ -14,7 +13,8 @@ use Rattle.book.specs.Plain.{Plain, job, bound, checks}
 use Rattle.book.specs.Done.{done}
 use Rattle.rules.specs.declared.parts.Origin.the-variants.{Bound}
 use Rattle.grades.specs.declared.holds.Hold.{Hold}
-use Rattle.grades.specs.Systems.{each-below, when, due, counts, hold-of, bound-hold, start-hold, check-hold, bound-holds, start-holds, check-holds-of, check-holds, holds, holds-in}
+use Rattle.grades.specs.Systems.{each-below, when, due, counts, hold-of, bound-hold, start-hold, check-hold}
+use Rattle.grades.specs.Systems.{bound-holds, start-holds, check-holds-of, check-holds, holds, holds-in}
 use Rattle.grades.proofs.Lists.{Every, every-at, every-append, every-below, every-when}
 
 -- a hold that is never read

@@ -1,10 +1,9 @@
 -- What the three systems mean.
-use mathlib.Core.List.{List, map}
-use Prim.Native.Nat.{ℕ}
+use mathlib.Core.List.{List}
 use Rattle.rules.specs.declared.parts.Origin.{Origin}
 use Rattle.rules.specs.Rules.{System}
 use Rattle.rules.specs.Tables.{rules-of}
-use Rattle.grades.specs.Systems.{rule-of, origins-of}
+use Rattle.grades.specs.Systems.{origins-of}
 use Rattle.systems.specs.declared.kept.HoldSystem.{HoldSystem}
 use Rattle.systems.specs.declared.kept.Strong.{Strong}
 use Rattle.systems.specs.declared.kept.Weak.{Weak}

@@ -8,7 +8,7 @@ ghost use Rattle.book.specs.Labels.{names};
 ghost use Rattle.book.specs.Plain.{checks, asking, job};
 ghost use Rattle.book.specs.Held.{held};
 ghost use Rattle.rules.specs.declared.parts.Origin.the-variants.{Bound as BoundOrigin};
-ghost use Rattle.grades.specs.Systems.{hold-of, bound-holds, start-holds, check-holds-of, check-holds, holds};
+ghost use Rattle.grades.specs.Systems.{hold-of, start-hold, check-hold, bound-holds, start-holds, check-holds-of, check-holds, holds};
 ghost use Rattle.systems.specs.Adding.{Adds, items};
 use crate::table::HoldTable;
 use book::keeping::Book;
@@ -58,6 +58,31 @@ fn bound_hold(bound: Bound, i: usize) -> Hold
     }
 }
 
+// The hold of a job by `start`.
+fn start_hold(j: usize) -> Hold
+    ensures { λ h. ⌜ h ≡ start-hold j ⌝ }
+{
+    Hold {
+        held: j,
+        by: 0,
+        minutes: 0,
+        origin: Origin::Start(j),
+    }
+}
+
+// The hold of a job by check `c`, whose outcome is known one minute after it.
+fn check_hold(book: &Book, j: usize, c: u8) -> Hold
+    requires is { ⌜ c < checks (held (now book)) ⌝ }
+    ensures { λ h. ⌜ h ≡ check-hold (held (now (book .entry))) j c ⌝ }
+{
+    Hold {
+        held: j,
+        by: asking(book, c),
+        minutes: 1,
+        origin: Origin::Check(c as usize, j),
+    }
+}
+
 // Adds the holds of the bounds.
 fn add_bounds(book: &Book, out: &mut HoldTable)
     ensures { λ _. ⌜ Adds 164 (items (now (out .entry))) (bound-holds (held (now (book .entry)))) (items (now (out .exit))) ⌝ }
@@ -75,12 +100,7 @@ fn add_starts(book: &Book, out: &mut HoldTable)
     let jobs = book.jobs();
     for j in 0..jobs.len() {
         if j != 0 {
-            out.push(Hold {
-                held: j,
-                by: 0,
-                minutes: 0,
-                origin: Origin::Start(j),
-            });
+            out.push(start_hold(j));
         }
     }
 }
@@ -93,12 +113,7 @@ fn add_checks_of(book: &Book, j: usize, label: Label, out: &mut HoldTable)
     let checks = book.checks();
     for c in 0..checks {
         if names(label, c) {
-            out.push(Hold {
-                held: j,
-                by: asking(book, c),
-                minutes: 1,
-                origin: Origin::Check(c as usize, j),
-            });
+            out.push(check_hold(book, j, c));
         }
     }
 }

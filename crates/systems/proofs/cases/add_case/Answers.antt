@@ -1,6 +1,6 @@
 use mathlib.Core.Path.{_≡_, sym, ap, ap₂, subst, _∙_}
 use mathlib.Core.Bool.{Bool, _&&_}
-use mathlib.Core.List.{List, [], _∷_, map}
+use mathlib.Core.List.{List, [], _∷_}
 use Prim.Native.Nat.{ℕ, _+_, _*_, _≤_, _<_}
 use native.Mathlib.Omega.{arith}
 use lib.IntN.{pos, negℤ}
@@ -12,7 +12,7 @@ use Rattle.book.specs.Held.{held, held-sound}
 use Rattle.rules.specs.Rules.{Rule}
 use Rattle.rules.specs.Tables.{rules-of}
 use Rattle.grades.specs.declared.holds.Hold.{Hold}
-use Rattle.grades.specs.Systems.{each-below, when, due, holds, holds-in, rule-of, place, case-rules}
+use Rattle.grades.specs.Systems.{each-below, when, due, holds, rule-of, place, case-rules}
 use Rattle.systems.specs.Adding.{Adds}
 use Rattle.systems.proofs.Adding.{adds-none, adds-more, adds-when, adds-not, rules-few, rule-put}
 use Rattle.systems.proofs.Reading.{place-small, hold-fits}

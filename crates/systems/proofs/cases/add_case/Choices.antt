@@ -1,4 +1,3 @@
-use mathlib.Core.List.{[], _∷_}
 use Rattle.book.specs.Held.{held}
 use Rattle.rules.specs.Tables.{rules-of}
 use Rattle.grades.specs.Systems.{each-below, rule-of, place}

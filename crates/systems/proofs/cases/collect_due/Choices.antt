@@ -1,4 +1,4 @@
-use mathlib.Core.List.{[], _∷_}
+use mathlib.Core.List.{[]}
 use Rattle.book.specs.Held.{held}
 use Rattle.grades.specs.Systems.{each-below}
 use Rattle.systems.specs.Adding.{Adds, items}

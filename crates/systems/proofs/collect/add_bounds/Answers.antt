@@ -1,6 +1,6 @@
 use mathlib.Core.Path.{_≡_, sym, ap, subst, _∙_}
 use mathlib.Core.List.{List, [], _∷_}
-use Prim.Native.Nat.{ℕ, _<_}
+use Prim.Native.Nat.{_<_}
 use native.Mathlib.Omega.{arith}
 use lib.IntN.{pos, negℤ}
 use lib.ListN.{length, getD}
@@ -23,7 +23,8 @@ bound-hold-requires c κs =
     let b = held (c .args .book .now) in
     let same : c .bounds-bounds .result .now ≡ b .bounds = c .bounds-bounds .ensures in
     let h : c .loop-i .i < length (b .bounds) = omega (arith, ap length same) in
-    record { low = subst (λ (ls : List Bound). negℤ (pos 4320) ≤ℤ getD ls (c .loop-i .i) no-bound .minutes) (sym same) (held-sound (c .args .book .now) .each-bound (c .loop-i .i) h .low) }
+    let low = held-sound (c .args .book .now) .each-bound (c .loop-i .i) h .low in
+    record { low = subst (λ (ls : List Bound). negℤ (pos 4320) ≤ℤ getD ls (c .loop-i .i) no-bound .minutes) (sym same) low }
 
 pub loop-i-again : need.loop-i-again
 loop-i-again c =

@@ -1,9 +1,6 @@
 use mathlib.Core.List.{[], _∷_}
-use lib.IntN.{pos}
-use Rattle.book.specs.Labels.{names}
-use Rattle.book.specs.Plain.{job}
 use Rattle.book.specs.Held.{held}
-use Rattle.grades.specs.Systems.{each-below, when, bound-hold, start-hold, check-hold, check-holds-of}
+use Rattle.grades.specs.Systems.{each-below, bound-hold}
 use Rattle.systems.specs.Adding.{Adds, items}
 use Rattle.systems.proofs.collect.add_bounds.Given as given
 

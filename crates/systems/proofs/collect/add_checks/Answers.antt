@@ -1,7 +1,4 @@
-use mathlib.Core.Path.{_≡_, sym, ap, subst, _∙_}
-use mathlib.Core.List.{List, [], _∷_}
-use native.Mathlib.Omega.{arith}
-use Rattle.book.specs.Held.{held, held-sound}
+use Rattle.book.specs.Held.{held}
 use Rattle.grades.specs.Systems.{check-holds-of}
 use Rattle.systems.specs.Adding.{items}
 use Rattle.systems.proofs.Adding.{adds-none, adds-more, items-few}

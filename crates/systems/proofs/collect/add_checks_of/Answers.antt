@@ -1,16 +1,12 @@
 use mathlib.Core.Path.{_≡_, sym, ap, subst, _∙_}
-use mathlib.Core.Bool.{true, false}
-use mathlib.Core.List.{List, [], _∷_}
-use Prim.Native.Nat.{ℕ}
+use mathlib.Core.List.{[], _∷_}
 use native.Mathlib.Omega.{arith}
-use lib.IntN.{pos}
 use Rattle.book.specs.Labels.{names}
 use Rattle.book.specs.Plain.{job}
 use Rattle.book.specs.Held.{held, held-sound}
-use Rattle.rules.specs.declared.parts.Origin.the-variants.{Check}
-use Rattle.grades.specs.declared.holds.Hold.{Hold}
-use Rattle.grades.specs.Systems.{when, check-hold}
+use Rattle.grades.specs.Systems.{check-hold}
 use Rattle.systems.specs.Adding.{Adds, items}
+use Rattle.systems.proofs.Holding.{check-if}
 use Rattle.systems.proofs.Adding.{adds-none, adds-more, adds-when, adds-not, items-few}
 use Rattle.systems.proofs.collect.add_checks_of.Needs as need
 use Rattle.systems.proofs.collect.add_checks_of.Needs.{then-names, else-names}
@@ -30,12 +26,13 @@ loop-c-again c =
     let after = items (c .if-names .out) in
     let test = names (job b j .label) k in
     let same : c .names .result ≡ test = c .names .ensures ∙ ap (λ l. names l k) (c .pre .is) in
-    let more : Adds 164 now (when test (check-hold b j k ∷ [])) after =
+    let one = check-hold b j k ∷ [] in
+    let more : Adds 164 now (check-if b j k) after =
     elim (c .if-names .came) [
       | then-names w ↦
-          let put : Adds 164 now (check-hold b j k ∷ []) after =
-          ap items (w .out-is) ∙ subst (λ i. Adds 164 now (record { held = j; by = i; minutes = pos 1; origin = Check k j } ∷ []) (items (w .push .last .self))) (w .asking .ensures) (w .push .ensures) in
-          adds-when 164 test (check-hold b j k ∷ []) now after (sym same ∙ w .if-names .taken) put
-      | else-names w ↦ adds-not 164 test (check-hold b j k ∷ []) now after (sym same ∙ w .if-names .left) (ap items (w .out-is)) (items-few (c .loop-c .out))
+          let put : Adds 164 now one after =
+          ap items (w .out-is) ∙ subst (λ x. Adds 164 now (x ∷ []) (items (w .push .last .self))) (w .check-hold .ensures) (w .push .ensures) in
+          adds-when 164 test one now after (sym same ∙ w .if-names .taken) put
+      | else-names w ↦ adds-not 164 test one now after (sym same ∙ w .if-names .left) (ap items (w .out-is)) (items-few (c .loop-c .out))
     ] in
-    adds-more 164 (items (c .args .out .now)) now after k (λ n. when (names (job b j .label) n) (check-hold b j n ∷ [])) (c .loop-c .inv) more
+    adds-more 164 (items (c .args .out .now)) now after k (check-if b j) (c .loop-c .inv) more

@@ -1,6 +1,5 @@
-use mathlib.Core.Path.{_≡_, sym, ap, subst, _∙_}
-use mathlib.Core.List.{List, [], _∷_, _++_}
-use native.Mathlib.Omega.{arith}
+use mathlib.Core.Path.{subst}
+use mathlib.Core.List.{_++_}
 use Rattle.book.specs.Held.{held, held-sound}
 use Rattle.grades.specs.Systems.{bound-holds, start-holds, check-holds, holds}
 use Rattle.grades.proofs.Limits.{holds-few}
@@ -19,4 +18,5 @@ returns c =
     adds-then 164 (items t1) (start-holds b) (items t2) (check-holds b) (items t3) (c .add-starts .ensures) (c .add-checks .ensures) in
     let whole : Adds 164 (items t0) (holds b) (items t3) =
     adds-then 164 (items t0) (bound-holds b) (items t1) (start-holds b ++ check-holds b) (items t3) (c .add-bounds .ensures) rest in
-    adds-all 164 (holds b) (items t3) (subst (λ xs. Adds 164 xs (holds b) (items t3)) (c .new-out .ensures) whole) (holds-few b (held-sound (c .args .book .now)))
+    let few = holds-few b (held-sound (c .args .book .now)) in
+    adds-all 164 (holds b) (items t3) (subst (λ xs. Adds 164 xs (holds b) (items t3)) (c .new-out .ensures) whole) few

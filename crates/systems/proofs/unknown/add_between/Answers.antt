@@ -1,14 +1,13 @@
 use mathlib.Core.Path.{_≡_, sym, ap, subst, _∙_}
 use mathlib.Core.List.{List, [], _∷_}
-use Prim.Native.Nat.{ℕ}
 use native.Mathlib.Omega.{arith}
 use lib.ListN.{length}
 use Rattle.book.specs.Held.{held}
 use Rattle.book.specs.declared.parts.Job.{Job}
-use Rattle.rules.specs.Rules.{Rule}
 use Rattle.rules.specs.Tables.{rules-of}
 use Rattle.grades.specs.Systems.{each-below, when, both-do, unknown-rule}
 use Rattle.systems.specs.Adding.{Adds}
+use Rattle.systems.proofs.Between.{unknown-if}
 use Rattle.systems.proofs.Adding.{adds-none, adds-more, adds-when, adds-not, rules-few, rule-put}
 use Rattle.systems.proofs.unknown.add_between.Needs as need
 use Rattle.systems.proofs.unknown.add_between.Needs.{then-both-do, else-both-do}
@@ -35,11 +34,11 @@ loop-j-again c =
           adds-when 8192 test (x ∷ []) now after (sym same ∙ w .if-both-do .taken) put
       | else-both-do w ↦ adds-not 8192 test (x ∷ []) now after (sym same ∙ w .if-both-do .left) (ap rules-of (w .out-is)) (rules-few (c .loop-j .out))
     ] in
-    adds-more 8192 (rules-of (c .args .out .now)) now after j (λ n. when (both-do b s t n) (unknown-rule b s t n ∷ [])) (c .loop-j .inv) more
+    adds-more 8192 (rules-of (c .args .out .now)) now after j (unknown-if b s t) (c .loop-j .inv) more
 
 pub returns : need.returns
 returns c =
     let b = held (c .args .book .now) in
-    let f : ℕ → List Rule = λ n. when (both-do b (c .args .s) (c .args .t) n) (unknown-rule b (c .args .s) (c .args .t) n ∷ []) in
+    let f = unknown-if b (c .args .s) (c .args .t) in
     let end : c .loop-j .j ≡ length (b .jobs) = omega (arith, ap (λ (js : List Job). length js) (c .jobs-jobs .ensures)) in
     subst (λ n. Adds 8192 (rules-of (c .args .out .now)) (each-below n f) (rules-of (c .loop-j .out))) end (c .loop-j .inv)

@@ -1,7 +1,6 @@
-use mathlib.Core.List.{[], _∷_}
 use Rattle.book.specs.Held.{held}
 use Rattle.rules.specs.Tables.{rules-of}
-use Rattle.grades.specs.Systems.{each-below, when, both-do, unknown-rule, unknown-between, unknown-from}
+use Rattle.grades.specs.Systems.{each-below, unknown-from}
 use Rattle.systems.specs.Adding.{Adds}
 use Rattle.systems.proofs.unknown.add_unknown.Given as given
 

@@ -1,4 +1,4 @@
-use mathlib.Core.Path.{_≡_, sym, ap, ap₂, subst, _∙_}
+use mathlib.Core.Path.{sym, ap, ap₂, subst}
 use mathlib.Core.List.{List}
 use Prim.Native.Nat.{_*_}
 use native.Mathlib.Omega.{arith}
@@ -7,7 +7,6 @@ use Rattle.book.specs.declared.parts.Job.{Job}
 use Rattle.book.specs.Plain.{cases}
 use Rattle.book.specs.Held.{held, held-sound}
 use Rattle.rules.specs.Rules.{Sound}
-use Rattle.grades.specs.Systems.{dynamic-system}
 use Rattle.grades.proofs.Limits.{systems-sound, few-places}
 use Rattle.systems.proofs.Asked.{dynamic-made}
 use Rattle.systems.proofs.kept.Dynamic.new.Needs as need
@@ -23,13 +22,13 @@ ghost-result c =
     let b = held (c .args .book .now) in
     let sound = held-sound (c .args .book .now) in
     let places = ap₂ _*_ (c .cases .ensures) (ap (λ (js : List Job). length js) (c .jobs .ensures)) in
-    let made = dynamic-made b sound (c .new-table .result) (c .add-cases .last .out) (c .add-unknown .last .out) (c .cases .result * length (c .jobs .result .now))
-    (c .new-table .ensures) (c .add-cases .ensures) (c .add-unknown .ensures) places in
+    let made = dynamic-made b sound (c .new-table .result) (c .add-cases .last .out) (c .add-unknown .last .out)
+    (c .cases .result * length (c .jobs .result .now)) (c .new-table .ensures) (c .add-cases .ensures) (c .add-unknown .ensures) places in
     (∣ subst Sound (sym made) (systems-sound b sound .2) ∣₁, tt)
 
 pub returns : need.returns
 returns c =
-    let b = held (c .args .book .now) in
     let places = ap₂ _*_ (c .cases .ensures) (ap (λ (js : List Job). length js) (c .jobs .ensures)) in
-    dynamic-made b (held-sound (c .args .book .now)) (c .new-table .result) (c .add-cases .last .out) (c .add-unknown .last .out)
-    (c .cases .result * length (c .jobs .result .now)) (c .new-table .ensures) (c .add-cases .ensures) (c .add-unknown .ensures) places
+    dynamic-made (held (c .args .book .now)) (held-sound (c .args .book .now)) (c .new-table .result) (c .add-cases .last .out)
+    (c .add-unknown .last .out) (c .cases .result * length (c .jobs .result .now)) (c .new-table .ensures) (c .add-cases .ensures)
+    (c .add-unknown .ensures) places

@@ -8,7 +8,7 @@ use mir.Val.{SFits}
 use Rattle.std.proofs.shelf.Signed.{toZ-ofZ}
 use Rattle.std.specs.declared.option.Option.the-variants.{Some}
 use Rattle.rules.specs.declared.parts.Alternative.{Alternative}
-use Rattle.rules.specs.Rules.{item, alternative-of, alternative-at}
+use Rattle.rules.specs.Rules.{alternative-of, alternative-at}
 use Rattle.grades.specs.Systems.{rule-of}
 use Rattle.systems.specs.Adding.{items}
 use Rattle.systems.specs.Meaning.{single-meaning}

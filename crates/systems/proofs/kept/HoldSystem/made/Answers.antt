@@ -1,4 +1,4 @@
-use mathlib.Core.Path.{_≡_, sym, ap, subst}
+use mathlib.Core.Path.{sym, subst}
 use mathlib.Core.List.{List}
 use lib.ListN.{length}
 use Rattle.book.specs.declared.parts.Job.{Job}

@@ -9,4 +9,5 @@ use Rattle.systems.proofs.kept.Strong.new.Needs as need
 pub made-requires : need.made-requires
 made-requires c κs =
     let b = held (c .args .book .now) in
-    record { sound = subst (λ hs. Sound (single-system (length (b .jobs)) hs)) (sym (c .collect-holds .ensures)) (systems-sound b (held-sound (c .args .book .now)) .0) }
+    let sound = systems-sound b (held-sound (c .args .book .now)) .0 in
+    record { sound = subst (λ hs. Sound (single-system (length (b .jobs)) hs)) (sym (c .collect-holds .ensures)) sound }
