@@ -1,2 +1,1 @@
-mod Recording
-mod Scanned
+mod Carried

@@ -1,3 +1,4 @@
-pub mod Newest
 pub mod Recorded
-pub mod Rows
+pub mod Sheets
+pub mod Steps
+pub mod Walks

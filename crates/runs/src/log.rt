@@ -1,10 +1,10 @@
 // The log of a run.
 ghost use mathlib.Core.Path.{_≡_};
-ghost use Prim.Native.Nat.{_≤_};
+ghost use Prim.Native.Nat.{_^_, _≤_};
 ghost use lib.ListN.{length};
 ghost use Rattle.walks.specs.Logs.{just-told, all-told};
 ghost use Rattle.walks.specs.Standing.{heard-set, yes-set, time as time-of};
-ghost use Rattle.runs.specs.Newest.{newest};
+ghost use Rattle.walks.specs.Newest.{newest};
 use walks::parts::Event;
 
 // The events of a run in the order in which they came, with what they come to: the sets of the checks reported and of those reported
@@ -17,9 +17,10 @@ pub struct Log {
     pub(crate) yes: u8,
     pub(crate) just: u32,
     pub(crate) told: u32,
-    pub(crate) time: u32,
+    pub(crate) time: u64,
     ghost sized: { length places ≡ 24 },
     ghost few: { count ≤ 24 },
+    ghost early: { time ≤ 2 ^ 32 },
     ghost heard_is: { heard ≡ heard-set (newest count places) },
     ghost yes_is: { yes ≡ yes-set (newest count places) },
     ghost just_is: { just ≡ just-told (newest count places) },

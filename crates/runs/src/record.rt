@@ -1,7 +1,7 @@
 // How a log grows, and how it is read.
 ghost use mathlib.Core.Path.{_≡_};
 ghost use mathlib.Core.List.{[], _∷_, reverse};
-ghost use Prim.Native.Nat.{_^_, _<_};
+ghost use Prim.Native.Nat.{_<_};
 ghost use lib.ListN.{length};
 ghost use Rattle.walks.specs.declared.parts.Event.the-variants.{Told, Reported};
 ghost use Rattle.runs.specs.Recorded.{recorded};
@@ -29,14 +29,13 @@ impl Log {
     // One telling more.
     pub(crate) fn tell(&mut self, telling: Telling)
         requires room { ⌜ length (recorded (now self)) < 24 ⌝ }
-        requires early { ⌜ telling .minute < 2 ^ 31 ⌝ }
         ensures { λ _. ⌜ recorded (now (self .exit)) ≡ Told telling ∷ recorded (now (self .entry)) ⌝ }
     {
         self.places[self.count] = Event::Told(telling);
         self.count += 1;
         self.just = telling.jobs;
         self.told = telling.jobs | self.told;
-        self.time = telling.minute + 1;
+        self.time = telling.minute as u64 + 1;
     }
 
     // One report more.

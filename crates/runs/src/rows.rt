@@ -4,7 +4,7 @@ ghost use Prim.Native.Nat.{_≤_};
 ghost use lib.ListN.{length};
 ghost use Rattle.std.specs.declared.option.Option.the-variants.{Some};
 ghost use Rattle.std.specs.Orderings.{Decides};
-ghost use Rattle.runs.specs.Rows.{natural, lesser-of, Least-below, Jobs-below, First-from};
+ghost use Rattle.walks.specs.Rows.{natural, lesser-of, Least-below, Jobs-below, First-from};
 use walks::parts::Telling;
 
 // The minute, if there is one.
@@ -15,13 +15,13 @@ fn minute_of(shown: i32) -> Option<u32>
 }
 
 // The lesser of the two minutes, where the second counts only from `from` on.
-fn lesser(least: Option<u32>, minute: Option<u32>, from: u32) -> Option<u32>
+fn lesser(least: Option<u32>, minute: Option<u32>, from: u64) -> Option<u32>
     ensures { λ r. ⌜ r ≡ lesser-of least minute from ⌝ }
 {
     match minute {
         None => least,
         Some(v) => {
-            if v < from {
+            if (v as u64) < from {
                 return least;
             }
             match least {
@@ -33,7 +33,7 @@ fn lesser(least: Option<u32>, minute: Option<u32>, from: u32) -> Option<u32>
 }
 
 // The least minute of the row from `from` on.
-fn least_from(row: &[i32], from: u32) -> Option<u32>
+fn least_from(row: &[i32], from: u64) -> Option<u32>
     ensures { λ r. ⌜ Least-below (now (row .entry)) from (length (now (row .entry))) r ⌝ }
 {
     let mut least = None;
@@ -68,7 +68,7 @@ fn due_in(row: &[i32], minute: u32) -> u32
 }
 
 // The least minute from `from` on, with the jobs due in it.
-pub(crate) fn first_from(row: &[i32], from: u32) -> Option<Telling>
+pub(crate) fn first_from(row: &[i32], from: u64) -> Option<Telling>
     requires few { ⌜ length (now row) ≤ 20 ⌝ }
     ensures { λ r. ⌜ First-from (now (row .entry)) from r ⌝ }
 {

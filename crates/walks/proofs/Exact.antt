@@ -56,7 +56,7 @@ module _ (b : Plain) (minute : Minutes) where
     back c h (yes u) = inr (before s a j v .1 (c, time-up log v u))
     back c h (no n) =
         let not-told : (w : ℕ) → Told-at log j w → ⊥ =
-            λ w p. let x = before s a j w .0 p in let u = up-time log w (x .1) in let e = x .0 .2 in let f = c .2 in n (omega arith) in
+        λ w p. let x = before s a j w .0 p in let u = up-time log w (x .1) in let e = x .0 .2 in let f = c .2 in n (omega arith) in
         let left : Left b log s j = (c .0, c .1, not-told) in
         let least = tells .next s a j left in
         let e : t .minute ≡ v = let f = c .2 in omega arith in

@@ -73,14 +73,14 @@ module _ (b : Plain) (minute : Minutes) where
     agreeing = (yes-set log, yes-agreeing b minute log l);
     next = λ t then w. let k = was (Told t ∷ then) log w l in (next-of then (k .0) t (k .1 .1), some-bit (t .jobs) (k .1 .1 .some));
     rises = λ t then w j v h.
-      let k = was (Told t ∷ then) log w l in
-      let p = past-all b minute then (k .0) t (k .1 .1) in
-      let x = exact b minute then (k .0) (yes-set then) (yes-agreeing b minute then (k .0)) j v .0 h in
-      let u = up-time then v (x .1) in
-      omega arith;
+        let k = was (Told t ∷ then) log w l in
+        let p = past-all b minute then (k .0) t (k .1 .1) in
+        let x = exact b minute then (k .0) (yes-set then) (yes-agreeing b minute then (k .0)) j v .0 h in
+        let u = up-time then v (x .1) in
+        omega arith;
     once = λ t then w j v h p.
-      let k = was (Told t ∷ then) log w l in
-      k .1 .1 .exactly (yes-set then) (yes-agreeing b minute then (k .0)) j .0 h .0 .2 v p;
+        let k = was (Told t ∷ then) log w l in
+        k .1 .1 .exactly (yes-set then) (yes-agreeing b minute then (k .0)) j .0 h .0 .2 v p;
     exact = λ then w. exact b minute then (was then log w l);
     reported = λ then w none c v h t. told-heard b minute then (was then log w l) none c v h t;
   }

@@ -4,3 +4,7 @@ pub mod Exact
 pub mod Laws
 pub mod Steps
 pub mod Single
+pub mod Recording
+pub mod Scanned
+pub mod Asks
+pub mod Readied

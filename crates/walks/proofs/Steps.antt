@@ -7,21 +7,24 @@ use native.Mathlib.Decide.{ℕ-discrete, decLt, decLe}
 use native.Mathlib.Omega.{arith}
 use lib.Bits.{bitOr}
 use lib.ListN.{length}
+use Rattle.std.specs.declared.option.Option.{Option}
+use Rattle.std.specs.declared.option.Option.the-variants.{Some}
 use Rattle.book.specs.Labels.{bit}
 use Rattle.book.specs.Plain.{Plain, checks, asking, Case, Done}
 use Rattle.book.specs.Sound.{Sound}
 use Rattle.book.proofs.Bits.{bit-or}
 use Rattle.grades.specs.Grades.{Minutes, Dynamic}
 use Rattle.grades.specs.Theorems.{Runs-alike, Agrees-up-to}
+use Rattle.grades.proofs.Strategies.{start-done}
 use Rattle.walks.specs.declared.parts.Telling.{Telling}
 use Rattle.walks.specs.declared.parts.Event.{Event}
 use Rattle.walks.specs.declared.parts.Event.the-variants.{Told, Reported}
-use Rattle.walks.specs.Logs.{Has, Told-at, Heard, Agreeing, Awaited, None-awaited, all-told, Comes, Left, Lawful, Tells, Ended}
+use Rattle.walks.specs.Logs.{Has, Told-at, Heard, Agreeing, Awaited, None-awaited, all-told, last-minute, Comes, Left, Lawful, Tells, Ended}
 use Rattle.walks.specs.Standing.{yes-set, heard-set, time, Begins, Over}
 use Rattle.walks.proofs.Sets.{some-bit, bit-same, size, size-le, size-grows}
 use Rattle.walks.proofs.Reports.{yes-agreeing, agree-same, told-heard, in-heard}
 use Rattle.walks.proofs.Exact.{up-time, time-up, exact}
-use Rattle.walks.proofs.Laws.{in-all}
+use Rattle.walks.proofs.Laws.{in-all, ended-are-whole}
 
 module _ (alike : Runs-alike) (b : Plain) (sound : Sound b) (minute : Minutes) (dynamic : Dynamic b minute)
     (log : List Event) (l : Lawful b minute log) (idle : None-awaited b log) where
@@ -85,11 +88,11 @@ module _ (alike : Runs-alike) (b : Plain) (sound : Sound b) (minute : Minutes) (
   ends over = record {
     none-awaited = idle;
     none-left = λ s a j left.
-      let agree = agreement (minute s j) (λ c h d k. over (asking b c) (sound .asked c h .0) d) s a in
-      let same = alike b sound minute dynamic (yes-set log) s (yes-agreeing b minute log l .0) (a .0) (minute s j) agree j (left .0) .1 (left .1) (omega arith) in
-      let e = same .1 in
-      let o = over j (left .0) (same .0) in
-      left .2 (minute s j) (exact b minute log l s a j (minute s j) .1 ((left .0, left .1, refl), time-up log (minute s j) (omega arith)));
+        let agree = agreement (minute s j) (λ c h d k. over (asking b c) (sound .asked c h .0) d) s a in
+        let same = alike b sound minute dynamic (yes-set log) s (yes-agreeing b minute log l .0) (a .0) (minute s j) agree j (left .0) .1 (left .1) (omega arith) in
+        let e = same .1 in
+        let o = over j (left .0) (same .0) in
+        left .2 (minute s j) (exact b minute log l s a j (minute s j) .1 ((left .0, left .1, refl), time-up log (minute s j) (omega arith)));
   }
 
 -- how many tellings and how many reports a log has
@@ -153,3 +156,16 @@ module _ (b : Plain) (minute : Minutes) where
       let n = size-le (length (b .jobs)) (all-told log) in
       let k = size-le (checks b) (heard-set log) in
       omega arith
+
+-- a log with a telling has a last minute
+last-some : (log : List Event) (j v : ℕ) → Told-at log j v → (m : ℕ) × (last-minute log ≡ Some m) × (time log ≡ m + 1)
+last-some [] j v h = absurd h
+last-some (Told t ∷ log) j v h = (t .minute, refl, refl)
+last-some (Reported r ∷ log) j v h = last-some log j v h
+
+-- at the end `start`, at least, was told
+pub last-of : (b : Plain) → Sound b → (minute : Minutes) (log : List Event) → Lawful b minute log → Ended b log →
+    (m : ℕ) × (last-minute log ≡ Some m) × (time log ≡ m + 1)
+last-of b sound minute log l e =
+    let whole = ended-are-whole b minute log l e (yes-set log) (yes-agreeing b minute log l) in
+    last-some log 0 (minute (yes-set log) 0) (whole .told 0 (sound .some) (start-done b sound (yes-set log)))

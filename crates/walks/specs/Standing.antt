@@ -6,6 +6,8 @@ use mathlib.Core.Logic.{_↔_, _≢_}
 use Prim.Native.Nat.{ℕ, _+_, _^_, _≤_, _<_}
 use lib.Bits.{bitOr}
 use lib.ListN.{length}
+use Rattle.std.specs.declared.option.Option.{Option}
+use Rattle.std.specs.declared.option.Option.the-variants.{Some, None}
 use Rattle.book.specs.Plain.{Plain, Done}
 use Rattle.grades.specs.Grades.{Minutes}
 use Rattle.walks.specs.declared.parts.Telling.{Telling}
@@ -40,3 +42,8 @@ pub record Begins (b : Plain) (minute : Minutes) (s from : ℕ) (t : Telling) : 
 -- in case s no job comes from minute `from` on
 abbrev pub Over : Plain → Minutes → ℕ → ℕ → Type 0
 Over b minute s from = (j : ℕ) → j < length (b .jobs) → Done b s j → minute s j < from
+
+-- what comes in case s from minute `from` on: nothing, or first this telling
+abbrev pub First : Plain → Minutes → ℕ → ℕ → Option Telling → Type 0
+First b minute s from None = Over b minute s from
+First b minute s from (Some t) = Begins b minute s from t

@@ -9,8 +9,8 @@ use mir.Syntax.{w32}
 use mir.Val.{SFits}
 use Rattle.std.proofs.shelf.Signed.{toZ-ofZ}
 use Rattle.std.specs.declared.option.Option.the-variants.{Some}
-use Rattle.runs.specs.Rows.{natural, Jobs-below}
-use Rattle.runs.proofs.Scanned.{jobs-more, jobs-same}
+use Rattle.walks.specs.Rows.{natural, Jobs-below}
+use Rattle.walks.proofs.Scanned.{jobs-more, jobs-same}
 use Rattle.runs.proofs.rows.due_in.Needs as need
 use Rattle.runs.proofs.rows.due_in.Needs.{then-is-due, else-is-due}
 
@@ -24,9 +24,9 @@ loop-j-again c =
     let few = c .pre .few in
     elim (c .if-is-due .came) [
       | then-is-due w ↦
-        subst (λ x. Jobs-below row minute (j + 1) x) (sym (w .jobs-is))
-        (jobs-more row minute j (c .loop-j .jobs) (c .loop-j .inv) (omega arith) (ap natural (sym e) ∙ c .is-due .ensures .0 (w .if-is-due .taken)))
+          subst (λ x. Jobs-below row minute (j + 1) x) (sym (w .jobs-is))
+          (jobs-more row minute j (c .loop-j .jobs) (c .loop-j .inv) (omega arith) (ap natural (sym e) ∙ c .is-due .ensures .0 (w .if-is-due .taken)))
       | else-is-due w ↦
-        subst (λ x. Jobs-below row minute (j + 1) x) (sym (w .jobs-is))
-        (jobs-same row minute j (c .loop-j .jobs) (c .loop-j .inv) (λ s. both-ways (c .is-due .result) (w .if-is-due .left) (c .is-due .ensures .1 (ap natural e ∙ s))))
+          subst (λ x. Jobs-below row minute (j + 1) x) (sym (w .jobs-is))
+          (jobs-same row minute j (c .loop-j .jobs) (c .loop-j .inv) (λ s. both-ways (c .is-due .result) (w .if-is-due .left) (c .is-due .ensures .1 (ap natural e ∙ s))))
     ]

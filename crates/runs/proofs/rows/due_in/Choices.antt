@@ -1,4 +1,4 @@
-use Rattle.runs.specs.Rows.{Jobs-below}
+use Rattle.walks.specs.Rows.{Jobs-below}
 use Rattle.runs.proofs.rows.due_in.Given as given
 
 abbrev pub Inv-loop-j : given.InvT-loop-j

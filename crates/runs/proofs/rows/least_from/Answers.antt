@@ -7,8 +7,8 @@ use lib.ListN.{length, getD}
 use mir.Syntax.{w32}
 use mir.Val.{SFits}
 use Rattle.std.proofs.shelf.Signed.{toZ-ofZ}
-use Rattle.runs.specs.Rows.{natural, Least-below}
-use Rattle.runs.proofs.Scanned.{least-more}
+use Rattle.walks.specs.Rows.{natural, Least-below}
+use Rattle.walks.proofs.Scanned.{least-more}
 use Rattle.runs.proofs.rows.least_from.Needs as need
 
 pub loop-shown-again : need.loop-shown-again

@@ -1,4 +1,4 @@
-use Rattle.runs.specs.Rows.{Least-below}
+use Rattle.walks.specs.Rows.{Least-below}
 use Rattle.runs.proofs.rows.least_from.Given as given
 
 abbrev pub Inv-loop-shown : given.InvT-loop-shown

@@ -8,8 +8,8 @@ use Rattle.std.proofs.shelf.Bits.{one-shl}
 use Rattle.walks.specs.declared.parts.Event.the-variants.{Reported}
 use Rattle.walks.specs.Logs.{just-told, all-told}
 use Rattle.walks.specs.Standing.{heard-set, yes-set, time}
-use Rattle.runs.specs.Newest.{newest}
-use Rattle.runs.proofs.Recording.{one-more, length-newest, marked}
+use Rattle.walks.specs.Newest.{newest}
+use Rattle.walks.proofs.Recording.{one-more, length-newest, marked}
 use Rattle.runs.proofs.log.Log.report.Needs as need
 
 pub index-self-self : need.index-self-self
@@ -35,10 +35,13 @@ ghost-self c =
       (
         omega arith,
         (
-          marked (s .heard) _ (c .args .report .check) (c .pre .low) (s .«heard_is») ∙ sym (ap heard-set more),
+          s .early,
           (
-            ap (λ x. bitOr x (c .if-report .mark)) (s .«yes_is») ∙ (ap (λ x. bitOr (yes-set (newest (s .count) (s .places))) x) mark ∙ sym (ap yes-set more)),
-            (s .«just_is» ∙ sym (ap just-told more), (s .«told_is» ∙ sym (ap all-told more), (s .«time_is» ∙ sym (ap time more), tt))),
+            marked (s .heard) _ (c .args .report .check) (c .pre .low) (s .«heard_is») ∙ sym (ap heard-set more),
+            (
+              ap (λ x. bitOr x (c .if-report .mark)) (s .«yes_is») ∙ (ap (λ x. bitOr (yes-set (newest (s .count) (s .places))) x) mark ∙ sym (ap yes-set more)),
+              (s .«just_is» ∙ sym (ap just-told more), (s .«told_is» ∙ sym (ap all-told more), (s .«time_is» ∙ sym (ap time more), tt))),
+            ),
           ),
         ),
       ),

@@ -1,12 +1,13 @@
 use mathlib.Core.Path.{_≡_, sym, ap, _∙_}
 use Prim.Native.Nat.{_+_, _≤_, _<_}
 use native.Mathlib.Omega.{arith}
+use borrow.Author.Needs.{needs}
 use lib.Bits.{bitOr}
 use lib.ListN.{length, length-set}
 use Rattle.walks.specs.declared.parts.Event.the-variants.{Told}
 use Rattle.walks.specs.Logs.{just-told, all-told}
 use Rattle.walks.specs.Standing.{heard-set, yes-set, time}
-use Rattle.runs.proofs.Recording.{one-more, length-newest}
+use Rattle.walks.proofs.Recording.{one-more, length-newest}
 use Rattle.runs.proofs.log.Log.tell.Needs as need
 
 pub index-self-self : need.index-self-self
@@ -30,12 +31,15 @@ ghost-self c =
       (
         omega arith,
         (
-          s .«heard_is» ∙ sym (ap heard-set more),
+          search needs,
           (
-            s .«yes_is» ∙ sym (ap yes-set more),
+            s .«heard_is» ∙ sym (ap heard-set more),
             (
-              sym (ap just-told more),
-              (ap (λ x. bitOr (c .args .telling .jobs) x) (s .«told_is») ∙ sym (ap all-told more), (sym (ap time more), tt)),
+              s .«yes_is» ∙ sym (ap yes-set more),
+              (
+                sym (ap just-told more),
+                (ap (λ x. bitOr (c .args .telling .jobs) x) (s .«told_is») ∙ sym (ap all-told more), (sym (ap time more), tt)),
+              ),
             ),
           ),
         ),

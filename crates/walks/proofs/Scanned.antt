@@ -16,9 +16,9 @@ use Rattle.std.specs.declared.option.Option.the-variants.{Some, None}
 use Rattle.std.proofs.shelf.Bits.{one-shl}
 use Rattle.book.specs.Labels.{bit}
 use Rattle.book.proofs.Bits.{bit-or}
 use Rattle.walks.specs.Logs.{Has}
 use Rattle.walks.proofs.Sets.{bit-same, bit-other}
-use Rattle.runs.specs.Rows.{natural, Shows, lesser-of, Least-below, Jobs-below}
+use Rattle.walks.specs.Rows.{natural, Shows, lesser-of, Least-below, Jobs-below}
 
 some-is : (v w : ℕ) → _≡_ {A = Option ℕ} (Some v) (Some w) → v ≡ w
 some-is v w e = cc

@@ -8,8 +8,8 @@ use lib.Bits.{bitOr}
 use lib.ListN.{length, take, set, length-take}
 use Rattle.std.proofs.shelf.Lists.{take-more-set, reverse-append, length-reverse}
 use Rattle.std.proofs.shelf.Bits.{one-shl}
 use Rattle.walks.specs.declared.parts.Event.{Event}
-use Rattle.runs.specs.Newest.{newest}
+use Rattle.walks.specs.Newest.{newest}
 
 pub one-more : (places : List Event) (n : ℕ) (e : Event) → n < length places → newest (n + 1) (set places n e) ≡ e ∷ newest n places
 one-more places n e h = ap reverse (take-more-set places n e h) ∙ reverse-append (take n places) (e ∷ [])
