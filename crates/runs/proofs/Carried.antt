@@ -47,7 +47,8 @@ first-in sheet jobs case e h from r f =
     let w = within sheet jobs case e h in
     let z = sheet .sized in
     let is = ap (λ k. take k (drop (case * n) (sheet .minutes))) one ∙ ap (λ k. take k (drop (case * k) (sheet .minutes))) same in
-    let long : length (take (case * n + n - case * n) (drop (case * n) (sheet .minutes))) ≡ length (plan sheet .jobs) = simp (length-take, length-drop) (omega arith) in
+    let long : length (take (case * n + n - case * n) (drop (case * n) (sheet .minutes))) ≡ length (plan sheet .jobs) =
+    simp (length-take, length-drop) (omega arith) in
     first-with (plan sheet) (times sheet) (sheet .minutes) (sheet .shown) case h _ is long from r f
 
 -- a log has few events

@@ -1,6 +1,7 @@
 -- What the calls on a run promise.
 use mathlib.Core.Path.{_≡_}
-use mathlib.Core.List.{List, [], _∷_}
+use mathlib.Core.Bool.{Bool}
+use mathlib.Core.List.{List, _∷_}
 use Prim.Native.Nat.{ℕ}
 use lib.Count.{ones}
 use denote.Ref.{now}
@@ -53,6 +54,10 @@ abbrev pub Steps : RunSheet → List Event → Stepped → Type 0
 Steps sheet log (Steps-on t r) = Walks sheet (Told t ∷ log) r
 Steps sheet log (Steps-to-ask t r) = Asks sheet (Told t ∷ log) r
 Steps sheet log (Ends r) = Finishes sheet log r
+
+-- the outcome of check c as an event
+abbrev pub reported : ℕ → Bool → Event
+reported c outcome = Reported (record { check = c; yes = outcome })
 
 -- a report of check c adds its outcome to the log
 abbrev pub Answers : RunSheet → List Event → Answered → Type 0

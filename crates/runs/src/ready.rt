@@ -1,5 +1,7 @@
 // Making a run sheet.
 ghost use mathlib.Core.Path.{_≡_};
+ghost use lib.IntN.{pos};
+ghost use lib.ListN.{replicate};
 ghost use Rattle.std.specs.Vec.{made};
 ghost use Rattle.book.specs.Plain.{new-book};
 ghost use Rattle.walks.specs.Ready.{Ready};
@@ -9,6 +11,13 @@ use book::keeping::Book;
 use std::alloc::AllocError;
 use std::alloc::Global;
 
+// A list of minutes with 0 at every place.
+fn zeros() -> [i32; 320]
+    ensures { λ r. ⌜ r ≡ replicate 320 (pos 0) ⌝ }
+{
+    [0; 320]
+}
+
 impl RunSheet {
     // The sheet of a new book: `start` at minute 0.
     pub fn new(heap: Global) -> Result<RunSheet, AllocError>
@@ -17,7 +26,7 @@ impl RunSheet {
         let book = Book::new(heap)?;
         Ok(RunSheet {
             book,
-            minutes: [0; 320],
+            minutes: zeros(),
         })
     }
 }

@@ -206,7 +206,8 @@ module _ (b : Plain) (sound : Sound b) (M : Minutes) (g : Earliest b (Dynamic b)
   front =
       ap (take (cases b * length (b .jobs))) is
       ∙ take-at (listed b M) rest (cases b * length (b .jobs))
-      (each-length (cases b) (length (b .jobs)) (λ s. each-below (length (b .jobs)) (λ j. shown b M s j ∷ [])) (λ s. one-length (length (b .jobs)) (shown b M s)))
+      (each-length (cases b) (length (b .jobs)) (λ s. each-below (length (b .jobs)) (λ j. shown b M s j ∷ []))
+      (λ s. one-length (length (b .jobs)) (shown b M s)))
 
   read-same : Alike b M (read b list)
   read-same s h j l d =

@@ -35,7 +35,8 @@ module _ (row : List ℤ) (from n : ℕ) where
       by (yes p) = inr (sym e ∙ subst (λ k. Shows row k v) p s)
       by (no p) = inl (omega arith)
 
-  pub least-more : (least z : Option ℕ) → natural (getD row n (pos 0)) ≡ z → Least-below row from n least → Least-below row from (n + 1) (lesser-of least z from)
+  pub least-more : (least z : Option ℕ) → natural (getD row n (pos 0)) ≡ z → Least-below row from n least →
+      Least-below row from (n + 1) (lesser-of least z from)
   least-more None None e h = λ j v l s. ⊎-case (shown-by None e j v l s) (λ k. h j v k s) (λ p. absurd (none-some v p))
     where
       ⊎-case : {A B C : Type 0} → A ⊎ B → (A → C) → (B → C) → C

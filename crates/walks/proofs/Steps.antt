@@ -29,7 +29,8 @@ use Rattle.walks.proofs.Laws.{in-all, ended-are-whole}
 module _ (alike : Runs-alike) (b : Plain) (sound : Sound b) (minute : Minutes) (dynamic : Dynamic b minute)
     (log : List Event) (l : Lawful b minute log) (idle : None-awaited b log) where
   -- where all checks that the leading case does before v were told, the agreeing cases agree with it up to v
-  agreement : (v : ℕ) → ((c : ℕ) → c < checks b → Done b (yes-set log) (asking b c) → minute (yes-set log) (asking b c) < v → minute (yes-set log) (asking b c) < time log)
+  agreement : (v : ℕ) →
+      ((c : ℕ) → c < checks b → Done b (yes-set log) (asking b c) → minute (yes-set log) (asking b c) < v → minute (yes-set log) (asking b c) < time log)
       → (s : ℕ) → Agreeing b log s → Agrees-up-to b minute s (yes-set log) v
   agreement v early s a c h d k =
       let lead = yes-agreeing b minute log l in
@@ -38,7 +39,8 @@ module _ (alike : Runs-alike) (b : Plain) (sound : Sound b) (minute : Minutes) (
       agree-same log s (yes-set log) c (a .1) (lead .1) (told-heard b minute log l idle c (minute (yes-set log) (asking b c)) h told)
 
   module _ (t : Telling) (begins : Begins b minute (yes-set log) (time log) t) (s : ℕ) (a : Agreeing b log s) where
-    early : (c : ℕ) → c < checks b → Done b (yes-set log) (asking b c) → minute (yes-set log) (asking b c) < t .minute → minute (yes-set log) (asking b c) < time log
+    early : (c : ℕ) → c < checks b → Done b (yes-set log) (asking b c) → minute (yes-set log) (asking b c) < t .minute →
+        minute (yes-set log) (asking b c) < time log
     early c h d k = by (decLt (minute (yes-set log) (asking b c)) (time log))
       where
         by : Dec (minute (yes-set log) (asking b c) < time log) → minute (yes-set log) (asking b c) < time log
@@ -89,7 +91,8 @@ module _ (alike : Runs-alike) (b : Plain) (sound : Sound b) (minute : Minutes) (
     none-awaited = idle;
     none-left = λ s a j left.
         let agree = agreement (minute s j) (λ c h d k. over (asking b c) (sound .asked c h .0) d) s a in
-        let same = alike b sound minute dynamic (yes-set log) s (yes-agreeing b minute log l .0) (a .0) (minute s j) agree j (left .0) .1 (left .1) (omega arith) in
+        let lead = yes-agreeing b minute log l .0 in
+        let same = alike b sound minute dynamic (yes-set log) s lead (a .0) (minute s j) agree j (left .0) .1 (left .1) (omega arith) in
         let e = same .1 in
         let o = over j (left .0) (same .0) in
         left .2 (minute s j) (exact b minute log l s a j (minute s j) .1 ((left .0, left .1, refl), time-up log (minute s j) (omega arith)));
@@ -124,7 +127,8 @@ module _ (b : Plain) (minute : Minutes) where
       let fresh : bit (all-told log) (one .0) < 1 = clear (one .0) left (ℕ-discrete (bit (all-told log) (one .0)) 1) in
       let o = bit-or (t .jobs) (all-told log) (one .0) in
       let e = one .1 in
-      let g = size-grows (length (b .jobs)) (all-told log) (bitOr (t .jobs) (all-told log)) (λ k. let p = bit-or (t .jobs) (all-told log) k in omega arith) (one .0) (left .0) (omega arith) in
+      let more : (k : ℕ) → bit (all-told log) k ≤ bit (bitOr (t .jobs) (all-told log)) k = λ k. let p = bit-or (t .jobs) (all-told log) k in omega arith in
+      let g = size-grows (length (b .jobs)) (all-told log) (bitOr (t .jobs) (all-told log)) more (one .0) (left .0) (omega arith) in
       omega arith
     where
       clear : (j : ℕ) → Left b log (yes-set log) j → Dec (bit (all-told log) j ≡ 1) → bit (all-told log) j < 1
@@ -140,7 +144,9 @@ module _ (b : Plain) (minute : Minutes) where
       let fresh : bit (heard-set log) (r .check) < 1 = clear (ℕ-discrete (bit (heard-set log) (r .check)) 1) in
       let o = bit-or (heard-set log) (2 ^ r .check) (r .check) in
       let e = bit-same (r .check) in
-      let g = size-grows (checks b) (heard-set log) (bitOr (heard-set log) (2 ^ r .check)) (λ k. let p = bit-or (heard-set log) (2 ^ r .check) k in omega arith) (r .check) (l .1 .0 .0) (omega arith) in
+      let more : (k : ℕ) → bit (heard-set log) k ≤ bit (bitOr (heard-set log) (2 ^ r .check)) k =
+      λ k. let p = bit-or (heard-set log) (2 ^ r .check) k in omega arith in
+      let g = size-grows (checks b) (heard-set log) (bitOr (heard-set log) (2 ^ r .check)) more (r .check) (l .1 .0 .0) (omega arith) in
       omega arith
     where
       clear : Dec (bit (heard-set log) (r .check) ≡ 1) → bit (heard-set log) (r .check) < 1

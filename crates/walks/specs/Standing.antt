@@ -8,7 +8,7 @@ use lib.Bits.{bitOr}
 use lib.ListN.{length}
 use Rattle.std.specs.declared.option.Option.{Option}
 use Rattle.std.specs.declared.option.Option.the-variants.{Some, None}
-use Rattle.book.specs.Plain.{Plain, Done}
+use Rattle.book.specs.Plain.{Plain, Case, Done}
 use Rattle.grades.specs.Grades.{Minutes}
 use Rattle.walks.specs.declared.parts.Telling.{Telling}
 use Rattle.walks.specs.declared.parts.Event.{Event}
@@ -47,3 +47,6 @@ Over b minute s from = (j : ℕ) → j < length (b .jobs) → Done b s j → min
 abbrev pub First : Plain → Minutes → ℕ → ℕ → Option Telling → Type 0
 First b minute s from None = Over b minute s from
 First b minute s from (Some t) = Begins b minute s from t
+
+abbrev pub Opens : Plain → Minutes → ℕ → ℕ → Option Telling → Type 0
+Opens b minute s from r = Case b s → First b minute s from r

@@ -19,7 +19,8 @@ no-job b c e f = let z : _≡_ {A = ℕ} 0 1 = cc in omega arith
 low : (c : need.In-Some) → c .in-Some .j < 20
 low c =
     let sound = held-sound (c .args .book .now) in
-    let e = job-is (held (c .args .book .now)) (c .args .c) (c .in-Some .j) (c .in-Some .ensures tt) (check-found (held (c .args .book .now)) sound (c .args .c) (c .pre .known)) in
+    let b = held (c .args .book .now) in
+    let e = job-is b (c .args .c) (c .in-Some .j) (c .in-Some .ensures tt) (check-found b sound (c .args .c) (c .pre .known)) in
     let k = sound .asked (c .args .c) (c .pre .known) .0 in
     let f = sound .few-jobs in
     omega arith

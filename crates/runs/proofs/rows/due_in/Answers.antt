@@ -28,5 +28,6 @@ loop-j-again c =
           (jobs-more row minute j (c .loop-j .jobs) (c .loop-j .inv) (omega arith) (ap natural (sym e) ∙ c .is-due .ensures .0 (w .if-is-due .taken)))
       | else-is-due w ↦
           subst (λ x. Jobs-below row minute (j + 1) x) (sym (w .jobs-is))
-          (jobs-same row minute j (c .loop-j .jobs) (c .loop-j .inv) (λ s. both-ways (c .is-due .result) (w .if-is-due .left) (c .is-due .ensures .1 (ap natural e ∙ s))))
+          (jobs-same row minute j (c .loop-j .jobs) (c .loop-j .inv)
+          (λ s. both-ways (c .is-due .result) (w .if-is-due .left) (c .is-due .ensures .1 (ap natural e ∙ s))))
     ]

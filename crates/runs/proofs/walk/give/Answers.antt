@@ -15,7 +15,8 @@ use Rattle.runs.specs.Walks.{outcomes-of, Asks-for}
 use Rattle.runs.proofs.Carried.{lawful}
 use Rattle.runs.proofs.walk.give.Needs as need
 
-one-more : (before after outs : List Bool) (at : ℕ) → at < length outs → before ≡ take at outs → after ≡ before ++ (getD outs at false ∷ []) → after ≡ take (at + 1) outs
+one-more : (before after outs : List Bool) (at : ℕ) → at < length outs → before ≡ take at outs →
+    after ≡ before ++ (getD outs at false ∷ []) → after ≡ take (at + 1) outs
 one-more before after outs at h e f = f ∙ (ap (λ os. os ++ (getD outs at false ∷ [])) e ∙ sym (take-more outs at false h))
 
 pub returns-then-at-outcomes : need.returns-then-at-outcomes

@@ -15,7 +15,8 @@ idle b c a = let z = bit-of-none (asking b c) in let e = a .1 in omega arith
 pub ghost-result : need.ghost-result
 ghost-result c =
     let b = plan (c .args .self .now) in
-    (subst (λ (l : List Event). ∥ Lawful b (times (c .args .self .now)) l ∥₁) (sym (c .new .ensures)) ∣ tt ∣₁, (subst (λ (l : List Event). ∥ None-awaited b l ∥₁) (sym (c .new .ensures)) ∣ idle b ∣₁, tt))
+    let law = subst (λ (l : List Event). ∥ Lawful b (times (c .args .self .now)) l ∥₁) (sym (c .new .ensures)) ∣ tt ∣₁ in
+    (law, (subst (λ (l : List Event). ∥ None-awaited b l ∥₁) (sym (c .new .ensures)) ∣ idle b ∣₁, tt))
 
 pub returns : need.returns
 returns c =

@@ -4,7 +4,7 @@ use native.Mathlib.Omega.{arith}
 use lib.Count.{ones}
 use denote.Ref.{now}
 use Rattle.std.specs.declared.option.Option.the-variants.{Some}
-use Rattle.runs.proofs.Carried.{ended-still, last-told}
+use Rattle.runs.proofs.Carried.{ran, ended-still, last-told}
 use Rattle.runs.proofs.state.Finished.numbers.Needs as need
 
 pub sub-result : need.sub-result
@@ -24,4 +24,7 @@ returns c =
     let e = last .2 in
     let t = r .log .«time_is» in
     let m : last .0 ≡ r .log .time - 1 = omega arith in
-    record { jobs = ap ones (r .log .«told_is»); last = last .1 ∙ ap Some m }
+    record {
+      numbers = record { jobs = ap ones (r .log .«told_is»); last = last .1 ∙ ap Some m };
+      run = ran sheet (r .log) (r .law) (ended-still sheet (r .log) (r .over));
+    }
