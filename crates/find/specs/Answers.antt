@@ -5,6 +5,8 @@ use mathlib.Core.List.{List, _++_, map}
 use Prim.Native.Nat.{ℕ, _≤_, _<_}
 use lib.ListN.{length, drop, getD}
 use lib.IntN.{ℤ, pos}
+use Rattle.std.specs.declared.option.Option.{Option}
+use Rattle.std.specs.declared.option.Option.the-variants.{Some, None}
 use Rattle.std.specs.declared.result.Result.{Result}
 use Rattle.std.specs.declared.result.Result.the-variants.{Ok, Err}
 use Rattle.rules.specs.declared.parts.Origin.{Origin}
@@ -26,6 +28,16 @@ number LoopShort = 13
 -- the least table stands first among the minutes, and the rest of them is as before
 abbrev pub Written : System → List ℤ → List ℤ → Type 0
 Written m before after = (table : List ℕ) × Least m table × (after ≡ map pos table ++ drop (m .places) before)
+
+-- what the end of a search says: none of the places bar each other, or some do
+abbrev pub found-of : Option ℕ → Found
+found-of None = Table
+found-of (Some p) = NoTable
+
+-- one of two, by what was found
+abbrev pub if-found : {A : Type 0} → Found → A → A → A
+if-found Table table none = table
+if-found NoTable table none = none
 
 -- What `find` answers: the minutes are too few, or a table keeps the rules, or none does. Each answer says which, so each comes
 -- exactly then.

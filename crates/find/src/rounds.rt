@@ -1,11 +1,23 @@
 // Rounds over the rules, which raise places and record the rule that raised each.
 ghost use Prim.Native.Nat.{_+_, _<_};
-ghost use lib.ListN.{length};
+ghost use lib.ListN.{length, set};
+ghost use mathlib.Core.Path.{_≡_};
 ghost use Rattle.rules.specs.Rules.{rule, Kept};
 ghost use Rattle.rules.specs.Search.{Good, Grown, All-kept};
 use crate::asking::held;
 use crate::asking::least_asked;
 use rules::system::RuleSystem;
+
+// Raises place `p` to `x`, and records rule `r` for it.
+fn put(table: &mut [u32], by: &mut [usize], p: usize, x: u32, r: usize)
+    requires within { ⌜ p < length (now table) ⌝ }
+    requires recorded { ⌜ p < length (now by) ⌝ }
+    ensures raised { λ _. ⌜ now (table .exit) ≡ set (now (table .entry)) p x ⌝ }
+    ensures recorded { λ _. ⌜ now (by .exit) ≡ set (now (by .entry)) p r ⌝ }
+{
+    table[p] = x;
+    by[p] = r;
+}
 
 // Raises the place that rule `r` holds back, where the table does not keep the rule, and records the rule for it.
 fn raise<T: RuleSystem>(t: &T, r: usize, table: &mut [u32], by: &mut [usize]) -> bool
@@ -19,8 +31,7 @@ fn raise<T: RuleSystem>(t: &T, r: usize, table: &mut [u32], by: &mut [usize]) ->
     if x <= table[p] {
         return false;
     }
-    table[p] = x;
-    by[p] = r;
+    put(table, by, p, x, r);
     true
 }
 

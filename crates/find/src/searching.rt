@@ -1,6 +1,8 @@
 // The search: rounds until the table stays, or the record shows that no table keeps the rules.
 ghost use mathlib.Core.Path.{_≡_};
+ghost use Prim.Native.Nat.{ℕ, _≤_};
 ghost use lib.ListN.{length};
+ghost use Rattle.rules.specs.Rules.{at};
 ghost use Rattle.rules.specs.Search.{Good, Searched};
 use crate::marks::first;
 use crate::marks::mark;
@@ -18,7 +20,8 @@ pub(crate) fn search<T: RuleSystem>(
 ) -> Option<usize>
     requires good { ⌜ Good (meaning (now t)) 0 (now table) (now by) ⌝ }
     requires wide { ⌜ length (now inside) ≡ 320 ⌝ }
-    ensures { λ r. ⌜ Searched (meaning (now (t .entry))) (now (table .exit)) (now (by .exit)) (now (inside .exit)) r ⌝ }
+    ensures low { λ _. ⌜ ((p : ℕ) → at (now (table .exit)) p ≤ 36771840) ⌝ }
+    ensures searched { λ r. ⌜ Searched (meaning (now (t .entry))) (now (table .exit)) (now (by .exit)) (now (inside .exit)) r ⌝ }
 {
     while round(t, table, by) {
         mark(table, inside);

@@ -1,7 +1,9 @@
 // What is done with a rule table: rows are put there one by one, and read.
 ghost use mathlib.Core.Path.{_≡_};
 ghost use mathlib.Core.List.{[], _∷_, _++_};
-ghost use lib.ListN.{length, take};
+ghost use Prim.Native.Nat.{_<_, _≤_};
+ghost use lib.ListN.{length, take, getD};
+ghost use Rattle.std.specs.Options.{Cases as BySome};
 ghost use Rattle.rules.specs.Rules.{item, held-of, count-of, alternative-of};
 ghost use Rattle.rules.specs.Tables.{rows-of, rules-of};
 use crate::parts::Alternative;
@@ -23,10 +25,8 @@ impl RuleTable {
             count: 0,
             alternatives: [step; 5],
         };
-        RuleTable {
-            rows: [row; 8192],
-            count: 0,
-        }
+        let rows = [row; 8192];
+        RuleTable { rows, count: 0 }
     }
 
     // Puts a row after the others; a full table stays as it is.
@@ -46,14 +46,24 @@ impl RuleTable {
         self.count
     }
 
+    // Row `r`.
+    fn row(&self, r: usize) -> Option<Row>
+        ensures { λ x. ⌜ BySome x (now (self .entry) .count ≤ r) (λ row. (r < now (self .entry) .count) × (row ≡ getD (now (self .entry) .rows) r row)) ⌝ }
+    {
+        if r < self.count {
+            Some(self.rows[r])
+        } else {
+            None
+        }
+    }
+
     // The place that the rule of row `r` holds back.
     pub fn held(&self, r: usize) -> Option<usize>
         ensures { λ p. ⌜ p ≡ held-of (item (rules-of (now (self .entry))) r) ⌝ }
     {
-        if r < self.count {
-            Some(self.rows[r].held())
-        } else {
-            None
+        match self.row(r) {
+            Some(row) => Some(row.held()),
+            None => None,
         }
     }
 
@@ -61,10 +71,9 @@ impl RuleTable {
     pub fn alternatives(&self, r: usize) -> Option<usize>
         ensures { λ n. ⌜ n ≡ count-of (item (rules-of (now (self .entry))) r) ⌝ }
     {
-        if r < self.count {
-            Some(self.rows[r].count())
-        } else {
-            None
+        match self.row(r) {
+            Some(row) => Some(row.count()),
+            None => None,
         }
     }
 
@@ -72,10 +81,9 @@ impl RuleTable {
     pub fn alternative(&self, r: usize, a: usize) -> Option<Alternative>
         ensures { λ x. ⌜ x ≡ alternative-of (item (rules-of (now (self .entry))) r) a ⌝ }
     {
-        if r < self.count {
-            self.rows[r].alternative(a)
-        } else {
-            None
+        match self.row(r) {
+            Some(row) => row.alternative(a),
+            None => None,
         }
     }
 }

@@ -1,5 +1,6 @@
 use mathlib.Core.Path.{_≡_, refl, sym, subst}
-use Prim.Native.Nat.{_+_, _≤_, _<_}
+use Prim.Native.Nat.{ℕ, _+_, _≤_, _<_}
+use mathlib.Core.List.{List}
 use lib.ListN.{set}
 use Rattle.std.specs.shelf.Lists.{sum}
 use Rattle.rules.specs.Rules.{at, rule}
@@ -18,25 +19,14 @@ offset-table-p g c =
     let sound = g .T·RuleSystem .sound (c .args .t .now) in
     omega (arith, sound .each (c .args .r) (c .pre .known) .within, sound .few, c .held-p .ensures)
 
-pub index-table-p-2 : need.index-table-p-2
-index-table-p-2 g c =
+pub put-requires : need.put-requires
+put-requires g c κs =
     let sound = g .T·RuleSystem .sound (c .args .t .now) in
-    omega (arith, sound .each (c .args .r) (c .pre .known) .within, sound .few, c .pre .good .wide, c .held-p .ensures)
-
-pub offset-table-p-2 : need.offset-table-p-2
-offset-table-p-2 g c =
-    let sound = g .T·RuleSystem .sound (c .args .t .now) in
-    omega (arith, sound .each (c .args .r) (c .pre .known) .within, sound .few, c .held-p .ensures)
-
-pub index-by-p : need.index-by-p
-index-by-p g c =
-    let sound = g .T·RuleSystem .sound (c .args .t .now) in
-    omega (arith, sound .each (c .args .r) (c .pre .known) .within, sound .few, c .pre .good .wide-by, c .held-p .ensures)
-
-pub offset-by-p : need.offset-by-p
-offset-by-p g c =
-    let sound = g .T·RuleSystem .sound (c .args .t .now) in
-    omega (arith, sound .each (c .args .r) (c .pre .known) .within, sound .few, c .held-p .ensures)
+    let low = sound .each (c .args .r) (c .pre .known) .within in
+    record {
+      within = omega (arith, low, sound .few, c .pre .good .wide, c .held-p .ensures);
+      recorded = omega (arith, low, sound .few, c .pre .good .wide-by, c .held-p .ensures);
+    }
 
 pub returns-then-x-table : need.returns-then-x-table
 returns-then-x-table g c =
@@ -57,9 +47,13 @@ returns g c =
     let x = c .least-asked-x .result in
     let asked = c .least-asked-x .ensures in
     let held = rule m r .held in
-    let e : c .held-p .result ≡ held = c .held-p .ensures in
+    let p = c .held-p .result in
+    let e : p ≡ held = c .held-p .ensures in
     let more : at table held < x = subst (λ p. at table p < x) e (c .if-x-table .left) in
-    record {
-      good = subst (λ p. Good m (r + 1) (set table p x) (set by p r)) (sym e) (rises m sound table by r x asked (c .pre .good) (c .pre .known) more);
-      grown = subst (λ p. sum table < sum (set table p x)) (sym e) (grows m sound table by r x asked (c .pre .good) (c .pre .known) more);
-    }
+    let raised = rises m sound table by r x asked (c .pre .good) (c .pre .known) more in
+    let grown = grows m sound table by r x asked (c .pre .good) (c .pre .known) more in
+    let P : List ℕ → List ℕ → Type 0 = λ T B. Good m (r + 1) T B × (sum table < sum T) in
+    let there : P (set table p x) (set by p r) = subst (λ q. P (set table q x) (set by q r)) (sym e) (raised, grown) in
+    let at-table = subst (λ T. P T (set by p r)) (sym (c .put .ensures .raised)) there in
+    let (good, more) = subst (P (c .put .last .table)) (sym (c .put .ensures .recorded)) at-table in
+    record { good = good; grown = more }

@@ -17,10 +17,10 @@ returns-in-Some g c =
     let table = c .round .last .table in
     let by = c .round .last .by in
     let good = c .round .ensures .good in
-    let marked = peeled-in m sound table by (good .recorded) (c .mark .last .inside) (c .peel .last .inside) (c .mark .ensures) (c .peel .ensures .peels) in (
-      barred m table by (good .recorded) (c .peel .last .inside) marked (c .peel .ensures .closed) (1382400 + 4320 * length (m .rules)) (good .low),
-      c .in-Some .ensures tt,
-    )
+    let marked = peeled-in m sound table by (good .recorded) (c .mark .last .inside) (c .peel .last .inside) (c .mark .ensures) (c .peel .ensures .peels) in
+    let high = 1382400 + 4320 * length (m .rules) in
+    let bar = barred m table by (good .recorded) (c .peel .last .inside) marked (c .peel .ensures .closed) high (good .low) in
+    record { low = λ p. omega (arith, good .low p, sound .few-rules); searched = (bar, c .in-Some .ensures tt) }
 
 -- after a round that goes on, every number is low
 low-again : (g : _) (c : need.In-rest g) (p : ℕ) → at (c .round .last .table) p ≤ 1382400
@@ -51,4 +51,5 @@ returns g c =
     let table = c .round .last .table in
     let (e, kept) = c .loop-table-test .ensures tt .grown in
     let low : (p : ℕ) → at table p ≤ 1382400 = λ p. subst (λ t. at t p ≤ 1382400) (sym e) (omega (arith, c .loop-table .inv .low p)) in
-    (good-again m (length (m .rules)) table (c .round .last .by) low (c .round .ensures .good), subst (All-kept m) (sym e) kept)
+    let good = good-again m (length (m .rules)) table (c .round .last .by) low (c .round .ensures .good) in
+    record { low = λ p. omega (arith, low p); searched = (good, subst (All-kept m) (sym e) kept) }

@@ -1,16 +1,21 @@
-use mathlib.Core.Path.{sym, ap, _∙_}
+use mathlib.Core.Path.{_≡_, sym, ap, _∙_}
 use Rattle.std.specs.declared.option.Option.the-variants.{Some}
-use Rattle.rules.specs.Rules.{held-of}
+use Rattle.rules.specs.Rules.{item, held-of}
+use Rattle.rules.specs.Rows.{rule-of}
+use Rattle.rules.specs.Tables.{rules-of}
 use Rattle.rules.proofs.Pushes.{table-item, table-none}
 use Rattle.rules.proofs.table.RuleTable.held.Needs as need
 
-pub returns-then-r-self : need.returns-then-r-self
-returns-then-r-self c =
+pub returns-in-Some : need.returns-in-Some
+returns-in-Some c =
     let t = c .args .self .now in
-    let here = table-item t (c .args .r) _ (c .if-r-self .taken) in
+    let row = c .in-Some .row in
+    let (within, is) = c .in-Some .ensures tt in
+    let here : item (rules-of t) (c .args .r) ≡ Some (rule-of row) =
+    table-item t (c .args .r) row within ∙ ap (λ x. Some (rule-of x)) (sym is) in
     ap Some (c .held .ensures) ∙ sym (ap held-of here)
 
-pub returns-else-r-self : need.returns-else-r-self
-returns-else-r-self c =
+pub returns-in-None : need.returns-in-None
+returns-in-None c =
     let t = c .args .self .now in
-    sym (ap held-of (table-none t (c .args .r) (c .if-r-self .left)))
+    sym (ap held-of (table-none t (c .args .r) (c .in-None .ensures tt)))
