@@ -42,20 +42,58 @@ mod tests {
         check(bind(book, Kind::Most, 4, 3, 10))
     }
 
-    // Whether alternative `a` of rule `r` holds back `held` by `place` plus `minutes`.
-    fn tells<S: RuleSystem>(system: &S, r: usize, a: usize, held: usize, place: usize, minutes: i32) -> bool {
-        match (system.held(r), system.alternative(r, a)) {
-            (Some(p), Some(x)) => p == held && x.place == place && x.minutes == minutes,
+    // A rule as it is expected: so many alternatives, the last of them the place plus the minutes.
+    #[derive(Clone, Copy)]
+    struct Expected {
+        held: usize,
+        count: usize,
+        place: usize,
+        minutes: i32,
+    }
+
+    fn rule(held: usize, place: usize, minutes: i32) -> Expected {
+        Expected {
+            held,
+            count: 1,
+            place,
+            minutes,
+        }
+    }
+
+    fn last_of_two(held: usize, place: usize, minutes: i32) -> Expected {
+        Expected {
+            held,
+            count: 2,
+            place,
+            minutes,
+        }
+    }
+
+    // Whether rule `r` is the one expected.
+    fn is_rule<S: RuleSystem>(system: &S, r: usize, expected: Expected) -> bool {
+        match (
+            system.held(r),
+            system.alternatives(r),
+            system.alternative(r, expected.count.saturating_sub(1)),
+        ) {
+            (Some(held), Some(count), Some(x)) => {
+                held == expected.held
+                    && count == expected.count
+                    && x.place == expected.place
+                    && x.minutes == expected.minutes
+            }
             _ => false,
         }
     }
 
-    // Whether rule `r` has so many alternatives.
-    fn has<S: RuleSystem>(system: &S, r: usize, count: usize) -> bool {
-        match system.alternatives(r) {
-            Some(n) => n == count,
-            None => false,
+    // Whether the system has the rules expected, and no other.
+    fn has_rules<S: RuleSystem>(system: &S, rules: &[Expected]) -> bool {
+        for (r, expected) in rules.iter().enumerate() {
+            if !is_rule(system, r, *expected) {
+                return false;
+            }
         }
+        system.rules() == rules.len()
     }
 
     // Whether an origin is that of a bound, of a start rule or of a check rule.
@@ -85,19 +123,21 @@ mod tests {
         let mut book = Book::new(rt.alloc())?;
         set_down(&mut book)?;
         let system = Strong::new(&book);
+        let rules = [
+            rule(1, 0, 60),
+            rule(2, 1, 5),
+            rule(3, 2, 90),
+            rule(1, 4, -20),
+            rule(4, 3, -10),
+            rule(1, 0, 0),
+            rule(2, 0, 0),
+            rule(3, 0, 0),
+            rule(4, 0, 0),
+            rule(2, 1, 1),
+            rule(4, 1, 1),
+        ];
         check(system.places() == 5)?;
-        check(system.rules() == 11)?;
-        check(tells(&system, 0, 0, 1, 0, 60))?;
-        check(tells(&system, 1, 0, 2, 1, 5))?;
-        check(tells(&system, 2, 0, 3, 2, 90))?;
-        check(tells(&system, 3, 0, 1, 4, -20))?;
-        check(tells(&system, 4, 0, 4, 3, -10))?;
-        check(tells(&system, 5, 0, 1, 0, 0))?;
-        check(tells(&system, 8, 0, 4, 0, 0))?;
-        check(tells(&system, 9, 0, 2, 1, 1))?;
-        check(tells(&system, 10, 0, 4, 1, 1))?;
-        check(has(&system, 10, 1))?;
-        check(!has(&system, 11, 1))?;
+        check(has_rules(&system, &rules))?;
         check(is_bound(system.origin(4), 4))?;
         check(is_start(system.origin(5), 1))?;
         check(is_check(system.origin(10), 0, 4))
@@ -108,15 +148,17 @@ mod tests {
         let mut book = Book::new(rt.alloc())?;
         set_down(&mut book)?;
         let system = Weak::new(&book, 0);
+        let rules = [
+            rule(1, 0, 60),
+            rule(1, 4, -20),
+            rule(4, 3, -10),
+            rule(1, 0, 0),
+            rule(3, 0, 0),
+            rule(4, 0, 0),
+            rule(4, 1, 1),
+        ];
         check(system.places() == 5)?;
-        check(system.rules() == 7)?;
-        check(tells(&system, 0, 0, 1, 0, 60))?;
-        check(tells(&system, 1, 0, 1, 4, -20))?;
-        check(tells(&system, 2, 0, 4, 3, -10))?;
-        check(tells(&system, 3, 0, 1, 0, 0))?;
-        check(tells(&system, 4, 0, 3, 0, 0))?;
-        check(tells(&system, 5, 0, 4, 0, 0))?;
-        check(tells(&system, 6, 0, 4, 1, 1))?;
+        check(has_rules(&system, &rules))?;
         check(is_bound(system.origin(1), 3))?;
         check(is_start(system.origin(4), 3))?;
         check(is_check(system.origin(6), 0, 4))
@@ -127,19 +169,29 @@ mod tests {
         let mut book = Book::new(rt.alloc())?;
         set_down(&mut book)?;
         let system = Dynamic::new(&book);
+        let rules = [
+            rule(1, 0, 60),
+            rule(1, 4, -20),
+            rule(4, 3, -10),
+            rule(1, 0, 0),
+            rule(3, 0, 0),
+            rule(4, 0, 0),
+            rule(4, 1, 1),
+            rule(6, 5, 60),
+            rule(7, 6, 5),
+            rule(8, 7, 90),
+            rule(6, 5, 0),
+            rule(7, 5, 0),
+            rule(8, 5, 0),
+            rule(7, 6, 1),
+            last_of_two(0, 1, 1),
+            last_of_two(1, 1, 1),
+            last_of_two(3, 1, 1),
+            last_of_two(5, 6, 1),
+            last_of_two(6, 6, 1),
+            last_of_two(8, 6, 1),
+        ];
         check(system.places() == 10)?;
-        check(system.rules() == 20)?;
-        check(tells(&system, 2, 0, 4, 3, -10))?;
-        check(tells(&system, 7, 0, 6, 5, 60))?;
-        check(tells(&system, 9, 0, 8, 7, 90))?;
-        check(tells(&system, 13, 0, 7, 6, 1))?;
-        check(tells(&system, 14, 0, 0, 5, 0))?;
-        check(tells(&system, 16, 0, 3, 8, 0))?;
-        check(tells(&system, 16, 1, 3, 1, 1))?;
-        check(has(&system, 16, 2))?;
-        check(tells(&system, 17, 0, 5, 0, 0))?;
-        check(tells(&system, 19, 0, 8, 3, 0))?;
-        check(tells(&system, 19, 1, 8, 6, 1))?;
-        check(!has(&system, 20, 2))
+        check(has_rules(&system, &rules))
     }
 }
