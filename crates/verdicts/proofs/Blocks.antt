@@ -91,11 +91,8 @@ read-found table k j =
     zeros (suc n) (suc i) = zeros n i
 
 -- a test that decides whether the case meets the label chooses what is shown
-pub shown-yes : (l : Label) (s : ℕ) (r : Bool) (x : ℤ) → Decides r (Meets l s) → r ≡ true → x ≡ cond (met-by l s) x (negsuc 0)
-shown-yes l s r x d e = ap (λ t. cond t x (negsuc 0)) (sym e ∙ same-from-decides r (met-by l s) d (met-by-decides l s))
-
-pub shown-no : (l : Label) (s : ℕ) (r : Bool) (x : ℤ) → Decides r (Meets l s) → r ≡ false → negsuc 0 ≡ cond (met-by l s) x (negsuc 0)
-shown-no l s r x d e = ap (λ t. cond t x (negsuc 0)) (sym e ∙ same-from-decides r (met-by l s) d (met-by-decides l s))
+pub shown-is : (l : Label) (s : ℕ) (r : Bool) (x : ℤ) → Decides r (Meets l s) → cond r x (negsuc 0) ≡ cond (met-by l s) x (negsuc 0)
+shown-is l s r x d = ap (λ t. cond t x (negsuc 0)) (same-from-decides r (met-by l s) d (met-by-decides l s))
 
 -- before its first number is written, a list is as it was
 pub row-starts : {X : Type 0} (before : List X) (first : ℕ) → before ≡ (take first before ++ []) ++ drop (first + 0) before

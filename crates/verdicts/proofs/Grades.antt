@@ -20,9 +20,11 @@ use Rattle.rules.specs.Rules.{System, Keeps, Least, None-keeps, at}
 use Rattle.rules.specs.declared.parts.Origin.{Origin}
 use Rattle.find.specs.declared.answers.Explained.{Explained}
 use Rattle.find.specs.declared.answers.Explained.the-variants as explained
+use Rattle.find.specs.declared.answers.Found.{Found}
+use Rattle.find.specs.declared.answers.Found.the-variants as found
 use Rattle.find.specs.declared.answers.Refusal.{Refusal}
 use Rattle.find.specs.declared.answers.Refusal.the-variants.{MinutesShort, LoopShort}
-use Rattle.find.specs.Answers.{Written, Explains, Looped, Too-short}
+use Rattle.find.specs.Answers.{Finds, Explains, Looped, Too-short}
 use Rattle.std.specs.declared.result.Result.{Result}
 use Rattle.std.specs.declared.result.Result.the-variants.{Ok}
 use Rattle.grades.specs.Grades.{Minutes, Strong, Weak, Dynamic, Earliest}
@@ -30,9 +32,11 @@ use Rattle.grades.specs.Systems.{strong-system, weak-system, dynamic-system, st
 use Rattle.grades.proofs.Strong.{strong-tables}
 use Rattle.grades.proofs.Weak.{weak-tables}
 use Rattle.grades.proofs.Dynamic.{dynamic-tables}
-use Rattle.verdicts.specs.Filling.{blocks, Weak-tables}
+use Rattle.verdicts.specs.declared.answers.StrongAnswer.{StrongAnswer}
+use Rattle.verdicts.specs.declared.answers.DynamicAnswer.{DynamicAnswer}
+use Rattle.verdicts.specs.Filling.{blocks, Strong-ends, Dynamic-ends, Weak-tables}
 use Rattle.verdicts.specs.Searches.{part}
-use Rattle.verdicts.specs.Verdicts.{size, Lists-earliest, No-strategy, Lowest-failing}
+use Rattle.verdicts.specs.Verdicts.{size, Lists-earliest, No-strategy, Lowest-failing, Strong-says, Dynamic-says}
 use Rattle.verdicts.proofs.Blocks.{each-same, read-found}
 
 -- the blocks of a table that has the minutes of a strategy are what the strategy lists
@@ -64,20 +68,20 @@ module _ (b : Plain) (sound : Sound b) where
   over-zeros places k table found sized e j =
       ap (λ xs. getD xs j (pos 0)) (e ∙ ap (λ n. map pos table ++ drop n (replicate k (pos 0))) (sym sized)) ∙ read-found table k j
 
-  -- what the search of the strong rules answers makes the verdict
-  pub strong-table : (before after found : List ℤ) (loops loops-after : List Origin) →
-      Explains (strong-system b) (strong-origins b) (replicate 20 (pos 0)) found loops loops-after (Ok explained.Table) →
-      after ≡ blocks b found 0 ++ drop (size b) before → Lists-earliest b (Strong b) before after × (loops-after ≡ loops)
-  strong-table before after found loops loops-after (_, _, (table, least, e), same) out =
+  -- what the search of the strong rules comes to makes the verdict
+  pub strong-ends : (answer : Explained) (before after found : List ℤ) (loops loops-after : List Origin) (r : StrongAnswer) →
+      Explains (strong-system b) (strong-origins b) (replicate 20 (pos 0)) found loops loops-after (Ok answer) →
+      Strong-ends answer b found before after r → Strong-says b before after loops loops-after r
+  strong-ends explained.Table before after found loops loops-after r (_, _, (table, least, e), same) (is, out) =
       let read = over-zeros (length (b .jobs)) 20 table found (least .keeps .sized) e in
       let listing = same-blocks b found 0 (strong-reads table) (λ s h j k. rw (mul-zero s, zero-add j) (read j)) in
-      ((strong-reads table, strong-tables b sound .least-is-earliest table least, out ∙ ap (λ xs. xs ++ drop (size b) before) listing), same)
-
-  pub strong-loop : (found : List ℤ) (loops loops-after : List Origin) (n : ℕ) →
-      Explains (strong-system b) (strong-origins b) (replicate 20 (pos 0)) found loops loops-after (Ok (explained.Loop n)) →
-      No-strategy (Strong b) × Looped (strong-system b) (strong-origins b) loops loops-after n
-  strong-loop found loops loops-after n (_, _, none, _, looped) =
-      (λ minute d. let (table, keeps) = strong-tables b sound .verdict .1 (minute, d) in none table keeps, looped)
+      let earliest = strong-tables b sound .least-is-earliest table least in
+      subst (Strong-says b before after loops loops-after) (sym is)
+      ((strong-reads table, earliest, out ∙ ap (λ xs. xs ++ drop (size b) before) listing), same)
+  strong-ends (explained.Loop n) before after found loops loops-after r (_, _, none, _, looped) (is, out) =
+      let no-strategy : No-strategy (Strong b) =
+      λ minute d. let (table, keeps) = strong-tables b sound .verdict .1 (minute, d) in none table keeps in
+      subst (Strong-says b before after loops loops-after) (sym is) (no-strategy, looped, out)
 
   -- a table of 320 numbers has room for the jobs of every case
   pub part-fits : (s : ℕ) → Case b s → part b s + length (b .jobs) ≤ 320
@@ -95,16 +99,18 @@ module _ (b : Plain) (sound : Sound b) where
   never-short m minutes records MinutesShort p h k short = omega arith
   never-short m minutes records LoopShort p h k (_, short) = omega (arith, sound .few-jobs)
 
-  -- what the search of the dynamic rules answers
-  pub dynamic-table : (before after found : List ℤ) → Written (dynamic-system b) (replicate 320 (pos 0)) found →
-      after ≡ blocks b found (length (b .jobs)) ++ drop (size b) before → Lists-earliest b (Dynamic b) before after
-  dynamic-table before after found (table, least, e) out =
+  -- what the search of the dynamic rules comes to makes the verdict
+  pub dynamic-ends : (answer : Found) (before after found : List ℤ) (r : DynamicAnswer) →
+      Finds (dynamic-system b) (replicate 320 (pos 0)) found (Ok answer) → Dynamic-ends answer b found before after r → Dynamic-says b before after r
+  dynamic-ends found.Table before after found r (_, (table, least, e)) (is, out) =
       let read = over-zeros (size b) 320 table found (least .keeps .sized) e in
       let listing = same-blocks b found (length (b .jobs)) (reads b table) (λ s h j k. read (s * length (b .jobs) + j)) in
-      (reads b table, dynamic-tables b sound .least-is-earliest table least, out ∙ ap (λ xs. xs ++ drop (size b) before) listing)
-
-  pub dynamic-none : None-keeps (dynamic-system b) → No-strategy (Dynamic b)
-  dynamic-none none minute d = let (table, keeps) = dynamic-tables b sound .verdict .1 (minute, d) in none table keeps
+      let earliest = dynamic-tables b sound .least-is-earliest table least in
+      subst (Dynamic-says b before after) (sym is) (reads b table, earliest, out ∙ ap (λ xs. xs ++ drop (size b) before) listing)
+  dynamic-ends found.NoTable before after found r (_, none, _) (is, out) =
+      let no-strategy : No-strategy (Dynamic b) =
+      λ minute d. let (table, keeps) = dynamic-tables b sound .verdict .1 (minute, d) in none table keeps in
+      subst (Dynamic-says b before after) (sym is) (no-strategy, out)
 
   -- the searches of the weak rules, case by case
   pub weak-listed : (before after found : List ℤ) → Weak-tables b (cases b) found →

@@ -6,19 +6,17 @@ ghost use lib.IntN.{negsuc};
 ghost use lib.ListN.{length};
 ghost use Rattle.book.specs.Plain.{Case};
 ghost use Rattle.book.specs.Held.{held};
-ghost use Rattle.book.specs.Done.{met-by};
 ghost use Rattle.verdicts.specs.Filling.{Case-filled, Filled};
 ghost use Rattle.verdicts.specs.Searches.{part};
 ghost use Rattle.verdicts.specs.Verdicts.{size};
 use book::keeping::Book;
 use book::labels::meets;
-use book::parts::Label;
 
-// What the minutes list has for a job with this label and this minute: -1 where the case does not meet the label.
-fn shown(label: Label, case: u8, minute: i32) -> i32
-    ensures { λ r. ⌜ r ≡ cond (met-by label case) minute (negsuc 0) ⌝ }
+// What the minutes list has for a job: its minute, or -1 where it is not done.
+fn shown(done: bool, minute: i32) -> i32
+    ensures { λ r. ⌜ r ≡ cond done minute (negsuc 0) ⌝ }
 {
-    if meets(label, case) { minute } else { -1 }
+    if done { minute } else { -1 }
 }
 
 // Writes the minutes of one case, which stand in `table` from `from` on, over the case's part of the minutes list: -1 for a job not done.
@@ -30,7 +28,7 @@ fn fill_case(book: &Book, case: u8, table: &[i32], from: usize, minutes: &mut [i
     let jobs = book.jobs();
     let first = case as usize * jobs.len();
     for (j, job) in jobs.iter().enumerate() {
-        minutes[first + j] = shown(job.label, case, table[from + j]);
+        minutes[first + j] = shown(meets(job.label, case), table[from + j]);
     }
 }
 

@@ -11,7 +11,7 @@ use Rattle.std.proofs.shelf.Signed.{toZ-ofZ}
 use Rattle.book.specs.Plain.{no-job}
 use Rattle.book.specs.Held.{held}
 use Rattle.book.specs.Done.{met-by, done}
-use Rattle.verdicts.proofs.Blocks.{row-starts, row-more}
+use Rattle.verdicts.proofs.Blocks.{shown-is, row-starts, row-more}
 use Rattle.verdicts.proofs.filling.fill_case.Needs as need
 
 pub loop-j-holds : need.loop-j-holds
@@ -27,7 +27,9 @@ loop-j-again c =
     let x : ℤ = getD table (c .args .from + j) (pos 0) in
     let x-fits : SFits w32 x = search needs in
     let r-fits : SFits w32 (c .shown .result) = search needs in
-    let is : c .shown .result ≡ cond (met-by (getD jobs j no-job .label) s) (toZ w32 (ofZ w32 x)) (negsuc 0) = c .shown .ensures in
+    let label = getD jobs j no-job .label in
+    let is : c .shown .result ≡ cond (met-by label s) (toZ w32 (ofZ w32 x)) (negsuc 0) =
+    c .shown .ensures ∙ shown-is label s (c .meets .result) (toZ w32 (ofZ w32 x)) (c .meets .ensures) in
     let f : ℕ → ℤ = λ i. cond (done b s i) (getD table (c .args .from + i) (pos 0)) (negsuc 0) in
     let value : toZ w32 (ofZ w32 (c .shown .result)) ≡ f j =
     toZ-ofZ w32 (c .shown .result) r-fits

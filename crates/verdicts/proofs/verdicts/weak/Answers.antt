@@ -1,4 +1,4 @@
-use mathlib.Core.Path.{_≡_, refl, ap, subst, _∙_}
+use mathlib.Core.Path.{_≡_, refl, sym, ap, subst, _∙_}
 use Prim.Native.Nat.{_*_, _≤_, _<_}
 use native.Mathlib.Omega.{arith}
 use lib.ListN.{length, drop, length-drop}
@@ -9,6 +9,7 @@ use Rattle.find.specs.Answers.{Looped}
 use Rattle.grades.specs.Systems.{weak-system, weak-origins}
 use Rattle.verdicts.specs.Filling.{Filled, Weak-tables}
 use Rattle.verdicts.specs.Searches.{part}
+use Rattle.verdicts.specs.Verdicts.{Weak-answered}
 use Rattle.verdicts.proofs.Grades.{means, part-fits, never-short, weak-starts, weak-more, weak-loop, weak-listed}
 use Rattle.verdicts.proofs.verdicts.weak.Needs as need
 
@@ -48,6 +49,7 @@ returns-in-Loop c =
     let said = means before after loops loops-after refl refl (ap Ok (c .in-Loop .is)) (c .in-Continue-found .ensures tt .said) in
     let (none, lowest, looped) = weak-loop b (held-sound book) s (c .loop-case .table) before after loops loops-after n is (c .loop-case .inv .0) said in
     let first = subst (λ xs. Looped (weak-system b s) (weak-origins b s) xs loops-after n) (c .loop-case .inv .1) looped in
+    subst (λ a. Weak-answered b (c .args .minutes .now) (c .args .minutes .now) (c .args .loops .now) loops-after (Ok a)) (sym (c .fails .ensures))
     ((omega (arith, c .size .ensures), c .if-loops-lt20 .left), (none, lowest, first, refl))
 
 pub loop-case-again : need.loop-case-again
