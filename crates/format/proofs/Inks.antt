@@ -13,7 +13,9 @@ use Rattle.book.specs.declared.parts.Kind.{Kind}
 use Rattle.book.specs.declared.parts.Kind.the-variants.{Least, Most}
 use Rattle.format.specs.declared.parts.Work.{Work}
 use Rattle.format.specs.declared.parts.Work.the-variants.{Job, Check}
-use Rattle.format.specs.Format.{Sign, plus, minus, Want, Job-line, Bound-line, Known, Every, Letter, Good-want, Good-job, Good-jobs, Good-bound, after}
+use Rattle.format.specs.declared.parts.Sign.{Sign}
+use Rattle.format.specs.declared.parts.Sign.the-variants.{Plus, Minus}
+use Rattle.format.specs.Format.{Want, Job-line, Bound-line, Known, Every, Letter, Good-want, Good-job, Good-jobs, Good-bound, after}
 use Rattle.format.specs.Format.{work-word, kind-word, sign-byte, want-word, job-words, bound-words, count-words, spaced}
 use Rattle.format.specs.Faults.{digits}
 use Rattle.format.proofs.Cuts.{Free}
@@ -63,8 +65,8 @@ signed-inky (pos n) h = digits-inky (decimal n) (digits-of n h)
 signed-inky (negsuc n) h = (omega arith, digits-inky (decimal (suc n)) (digits-of (suc n) h))
 
 sign-inky : (s : Sign) → 32 < sign-byte s
-sign-inky plus = omega arith
-sign-inky minus = omega arith
+sign-inky Plus = omega arith
+sign-inky Minus = omega arith
 
 wants-inky : (ks : List Known) (xs : List Want) → Every (Good-want ks) xs → Every Inky (map want-word xs)
 wants-inky ks [] g = tt

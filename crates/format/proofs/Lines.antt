@@ -17,8 +17,10 @@ use Rattle.book.specs.declared.parts.Kind.{Kind}
 use Rattle.book.specs.declared.parts.Kind.the-variants.{Least, Most}
 use Rattle.format.specs.declared.parts.Work.{Work}
 use Rattle.format.specs.declared.parts.Work.the-variants.{Job, Check}
+use Rattle.format.specs.declared.parts.Sign.{Sign}
+use Rattle.format.specs.declared.parts.Sign.the-variants.{Plus, Minus}
 use Rattle.format.specs.declared.parts.FileFault.the-variants.{WrongLine, NotANumber, BadName, NameTaken, NameReserved, UnknownName}
-use Rattle.format.specs.Format.{Sign, plus, minus, Want, Job-line, Bound-line, Known, Every, Some-of, Name-form, Good-want, Good-job, Good-bound}
+use Rattle.format.specs.Format.{Want, Job-line, Bound-line, Known, Every, Some-of, Name-form, Good-want, Good-job, Good-bound}
 use Rattle.format.specs.Format.{work-word, kind-word, sign-byte, want-word, job-words, bound-words, count-words, reserved-words, same, job-number, check-number}
 use Rattle.format.specs.Faults.{fault-at, then, given, among, name-form, work-of, kind-of, sign-of, new-name, job-named, check-named, want-of, wants-of}
 use Rattle.format.specs.Faults.{natural-of, minutes-of, count-of, job-line, bound-line}
@@ -56,14 +58,14 @@ kind-complete Most = refl
 pub sign-sound : (c : ℕ) (s : Sign) → sign-of c ≡ Some s → c ≡ sign-byte s
 sign-sound c k e = go (eqb c 43) refl (eqb c 45) refl e
   where
-    go : (s : Bool) → eqb c 43 ≡ s → (t : Bool) → eqb c 45 ≡ t → cond s (Some plus) (cond t (Some minus) None) ≡ Some k → c ≡ sign-byte k
-    go true d t f q = eqb-true c 43 d ∙ ap sign-byte (same-some plus k q)
-    go false d true f q = eqb-true c 45 f ∙ ap sign-byte (same-some minus k q)
+    go : (s : Bool) → eqb c 43 ≡ s → (t : Bool) → eqb c 45 ≡ t → cond s (Some Plus) (cond t (Some Minus) None) ≡ Some k → c ≡ sign-byte k
+    go true d t f q = eqb-true c 43 d ∙ ap sign-byte (same-some Plus k q)
+    go false d true f q = eqb-true c 45 f ∙ ap sign-byte (same-some Minus k q)
     go false d false f q = no-value k q
 
 pub sign-complete : (s : Sign) → sign-of (sign-byte s) ≡ Some s
-sign-complete plus = refl
-sign-complete minus = refl
+sign-complete Plus = refl
+sign-complete Minus = refl
 
 module _ (ks : List Known) (l : ℕ) where
   -- names

@@ -12,7 +12,9 @@ use Rattle.book.specs.declared.parts.Refusal.{Refusal}
 use Rattle.book.specs.Plain.{Plain, Outcome, empty-label, new-book, add-job, add-check, add-bound}
 use Rattle.format.specs.declared.parts.Work.{Work}
 use Rattle.format.specs.declared.parts.Work.the-variants.{Job, Check}
-use Rattle.format.specs.Format.{Sign, plus, minus, Want, Job-line, Bound-line, Plan-text, Known, at-first, after, after-all, job-number, check-number}
+use Rattle.format.specs.declared.parts.Sign.{Sign}
+use Rattle.format.specs.declared.parts.Sign.the-variants.{Plus, Minus}
+use Rattle.format.specs.Format.{Want, Job-line, Bound-line, Plan-text, Known, at-first, after, after-all, job-number, check-number}
 
 abbrev pub or-zero : Option ℕ → ℕ
 or-zero None = 0
@@ -20,8 +22,8 @@ or-zero (Some n) = n
 
 -- a label with one more check wanted: the same check twice is the same bit
 abbrev pub wanting : Label → Sign → ℕ → Label
-wanting l plus c = record { yes = bitOr (l .yes) (2 ^ c); no = l .no }
-wanting l minus c = record { yes = l .yes; no = bitOr (l .no) (2 ^ c) }
+wanting l Plus c = record { yes = bitOr (l .yes) (2 ^ c); no = l .no }
+wanting l Minus c = record { yes = l .yes; no = bitOr (l .no) (2 ^ c) }
 
 -- the label that label words give, after those of l
 abbrev pub label-from : Label → List Known → List Want → Label

@@ -17,6 +17,8 @@ use Rattle.book.specs.declared.parts.Refusal.{Refusal}
 use Rattle.book.specs.Plain.{Plain, new-book, number}
 use Rattle.format.specs.declared.parts.Work.{Work}
 use Rattle.format.specs.declared.parts.Work.the-variants.{Job, Check}
+use Rattle.format.specs.declared.parts.Sign.{Sign}
+use Rattle.format.specs.declared.parts.Sign.the-variants.{Plus, Minus}
 use Rattle.format.specs.declared.parts.FileFault.{FileFault}
 use Rattle.format.specs.declared.parts.FileFault.the-variants.{TooLong, Unfinished, WrongLine, NotANumber, BadName, NameTaken, NameReserved}
 use Rattle.format.specs.declared.parts.FileFault.the-variants.{UnknownName, Trailing, NamesShort}
@@ -24,7 +26,7 @@ use Rattle.format.specs.declared.parts.Reason.{Reason}
 use Rattle.format.specs.declared.parts.Reason.the-variants.{File, Book}
 use Rattle.format.specs.declared.parts.Fault.{Fault}
 use Rattle.format.specs.declared.parts.NamePlace.{NamePlace}
-use Rattle.format.specs.Format.{Sign, plus, minus, Want, Job-line, Bound-line, Plan-text, Known, at-first, after, same, job-number, check-number}
+use Rattle.format.specs.Format.{Want, Job-line, Bound-line, Plan-text, Known, at-first, after, same, job-number, check-number}
 use Rattle.format.specs.Format.{reserved-words}
 use Rattle.format.specs.Entered.{call-job, call-bound}
 
@@ -110,25 +112,30 @@ work-of w = cond (same w (codes "job")) (Some Job) (cond (same w (codes "check")
 abbrev pub kind-of : List ℕ → Option Kind
 kind-of w = cond (same w (codes "least")) (Some Least) (cond (same w (codes "most")) (Some Most) None)
 
--- a new name: in form, then no job's, then not reserved
+-- a new name, where a job of that name was found or not: in form, then no job's, then not reserved
 abbrev pub unless-taken : {A : Type 0} → Option ℕ → Fault → Result A Fault → Result A Fault
 unless-taken (Some j) e r = Err e
 unless-taken None e r = r
 
+abbrev pub new-as : Option ℕ → ℕ → ℕ → List ℕ → Result (List ℕ) Fault
+new-as found l b w =
+    cond (name-form w) (unless-taken found (fault-at NameTaken l b) (cond (among w reserved-words) (fault NameReserved l b) (Ok w))) (fault BadName l b)
+
 abbrev pub new-name : List Known → ℕ → ℕ → List ℕ → Result (List ℕ) Fault
-new-name ks l b w =
-    cond (name-form w) (unless-taken (job-number ks w) (fault-at NameTaken l b) (cond (among w reserved-words) (fault NameReserved l b) (Ok w)))
-    (fault BadName l b)
+new-name ks l b w = new-as (job-number ks w) l b w
 
 -- the job that a word names, and the check
+abbrev pub named-as : Option ℕ → ℕ → ℕ → List ℕ → Result ℕ Fault
+named-as found l b w = cond (name-form w) (given found (fault-at UnknownName l b)) (fault BadName l b)
+
 abbrev pub job-named : List Known → ℕ → ℕ → List ℕ → Result ℕ Fault
-job-named ks l b w = cond (name-form w) (given (job-number ks w) (fault-at UnknownName l b)) (fault BadName l b)
+job-named ks l b w = named-as (job-number ks w) l b w
 
 abbrev pub check-named : List Known → ℕ → ℕ → List ℕ → Result ℕ Fault
-check-named ks l b w = cond (name-form w) (given (check-number ks w) (fault-at UnknownName l b)) (fault BadName l b)
+check-named ks l b w = named-as (check-number ks w) l b w
 
 abbrev pub sign-of : ℕ → Option Sign
-sign-of c = cond (eqb c 43) (Some plus) (cond (eqb c 45) (Some minus) None)
+sign-of c = cond (eqb c 43) (Some Plus) (cond (eqb c 45) (Some Minus) None)
 
 abbrev pub want-of : List Known → ℕ → ℕ → List ℕ → Result Want Fault
 want-of ks l b [] = fault BadName l b

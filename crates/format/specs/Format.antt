@@ -15,12 +15,10 @@ use Rattle.book.specs.declared.parts.Kind.{Kind}
 use Rattle.book.specs.declared.parts.Kind.the-variants.{Least, Most}
 use Rattle.format.specs.declared.parts.Work.{Work}
 use Rattle.format.specs.declared.parts.Work.the-variants.{Job, Check}
+use Rattle.format.specs.declared.parts.Sign.{Sign}
+use Rattle.format.specs.declared.parts.Sign.the-variants.{Plus, Minus}
 
 -- a label word: +NAME wants yes of a check, -NAME wants no
-pub data Sign : Type 0 where
-  plus : Sign
-  minus : Sign
-
 pub record Want : Type 0 where
   pub sign : Sign
   pub name : List ℕ
@@ -52,8 +50,8 @@ kind-word Least = codes "least"
 kind-word Most = codes "most"
 
 abbrev pub sign-byte : Sign → ℕ
-sign-byte plus = 43
-sign-byte minus = 45
+sign-byte Plus = 43
+sign-byte Minus = 45
 
 abbrev pub want-word : Want → List ℕ
 want-word a = sign-byte (a .sign) ∷ a .name
@@ -154,7 +152,7 @@ same (x ∷ xs) (y ∷ ys) = eqb x y && same xs ys
 -- the number of the job that has a name, the first known being number n
 abbrev pub job-from : ℕ → List Known → List ℕ → Option ℕ
 job-from n [] w = None
-job-from n (k ∷ ks) w = cond (same (k .name) w) (Some n) (job-from (suc n) ks w)
+job-from n (k ∷ ks) w = cond (same (k .name) w) (Some n) (job-from (n + 1) ks w)
 
 abbrev pub job-number : List Known → List ℕ → Option ℕ
 job-number ks w = job-from 0 ks w

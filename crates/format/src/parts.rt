@@ -1,4 +1,6 @@
 // What a reader of plan files answers with.
+ghost use mathlib.Core.Path.{_≡_};
+ghost use Rattle.format.specs.declared.parts.Reason.the-variants.{Book};
 use book::parts::Refusal;
 
 // What is wrong with a file itself.
@@ -23,6 +25,15 @@ pub enum Reason {
     Book(Refusal),
 }
 
+// A refusal is kept whole.
+pub impl From<Refusal> for Reason as ReasonFromRefusal {
+    ghost converts = { λ e r. r ≡ Book e };
+
+    fn from(e: Refusal) -> Reason {
+        Reason::Book(e)
+    }
+}
+
 // A fault and where it is: the line from 1, the byte from 0.
 #[derive(Clone, Copy)]
 pub struct Fault {
@@ -36,6 +47,13 @@ pub struct Fault {
 pub enum Work {
     Job,
     Check,
+}
+
+// The sign before a check's name: a plus wants yes of it, a minus no.
+#[derive(Clone, Copy)]
+pub enum Sign {
+    Plus,
+    Minus,
 }
 
 // Where a name stands in a text.

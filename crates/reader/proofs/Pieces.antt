@@ -62,3 +62,30 @@ name-is w r lo hi e = grind (arith, tells)
 
 pub name-not : (w : List ℕ) → (length w < 1) ⊎ (8 < length w) → false ≡ name-form w
 name-not w o = grind (arith, tells)
+
+-- the pieces of a whole text, and of a text that has more
+pub whole : (c : ℕ) (text : List ℕ) → pieces-from c text 0 ≡ cut c text
+whole c text = rw (le-leb 0 (length text) (omega arith)) refl
+
+no-piece : (xs : List (List ℕ)) → length xs ≡ 0 → xs ≡ []
+no-piece [] h = refl
+no-piece (x ∷ xs) h = absurd (omega arith)
+
+pub first-piece : (c : ℕ) (text : List ℕ) (first : ℕ) → Piece c text 0 first → cut c text ≡ take first text ∷ pieces-from c text (first + 1)
+first-piece c text first p =
+    let k : first - 0 ≡ first = omega arith in
+    sym (whole c text) ∙ (p .is ∙ ap (λ n. take n text ∷ pieces-from c text (first + 1)) k)
+
+pub two-pieces : (text : List ℕ) (first end : ℕ) → Piece 32 text 0 first → Piece 32 text (first + 1) end → length (cut 32 text) ≡ 2
+    → cut 32 text ≡ take first text ∷ (take (end - (first + 1)) (drop (first + 1) text) ∷ [])
+two-pieces text first end p q n =
+    let a = first-piece 32 text first p ∙ ap (λ t. take first text ∷ t) (q .is) in
+    let z = no-piece (pieces-from 32 text (end + 1)) (omega (arith, ap length a)) in
+    a ∙ ap (λ t. take first text ∷ (take (end - (first + 1)) (drop (first + 1) text) ∷ t)) z
+
+-- the last piece has no line feed
+pub last-piece : (c : ℕ) (text : List ℕ) (start end : ℕ) → Piece c text start end → length text ≤ end → cut c (drop start text) ≡ take (end - start) (drop start text) ∷ []
+last-piece c text start end p h =
+    let a : pieces-from c text start ≡ cut c (drop start text) = rw (le-leb start (length text) (omega (arith, p .from, p .within))) refl in
+    let b : pieces-from c text (end + 1) ≡ [] = rw (lt-leb (end + 1) (length text) (omega arith)) refl in
+    sym a ∙ (p .is ∙ ap (λ t. take (end - start) (drop start text) ∷ t) b)
