@@ -59,5 +59,8 @@ carried cs i d b b′ xs ys r h eb ea er e′ f =
     let m = take-more cs i d h in
     let x = getD cs i d in (
       e′ ∙ (ap (λ p. fed-one p x) eb ∙ (sym (fed-push new-book (take i cs) x) ∙ ap fed (sym m))),
-      f ∙ (ap (λ p. p ++ r ∷ []) ea ∙ (ap (λ p. answers new-book (take i cs) ++ p ∷ []) (er ∙ ap (λ p. answer-one p x) eb) ∙ (sym (answers-push new-book (take i cs) x) ∙ ap (answers new-book) (sym m)))),
+      f
+          ∙ (ap (λ p. p ++ r ∷ []) ea
+          ∙ (ap (λ p. answers new-book (take i cs) ++ p ∷ []) (er ∙ ap (λ p. answer-one p x) eb)
+          ∙ (sym (answers-push new-book (take i cs) x) ∙ ap (answers new-book) (sym m)))),
     )

@@ -69,15 +69,28 @@ none-of x y h f = grind arith
 -- each bit of a is one of b
 pub within-is : (n a b : ℕ) → a < 2 ^ n → b < 2 ^ n → Decides (eqb (bitAnd a b) a) ((j : ℕ) → j < n → bit a j ≡ 1 → bit b j ≡ 1)
 within-is n a b h k = (
-  λ t j l e. let s : bitAnd a b ≡ a = grind (arith, tells) in let m : bit a j ≡ min (bit a j) (bit b j) = ap (λ x. bit x j) (sym s) ∙ bit-and a b j in omega (arith, bit-lt b j),
-  λ f. let s : bitAnd a b ≡ a = same-bits n (bitAnd a b) a (and-lt n a b h k) h (λ j l. bit-and a b j ∙ min-of (bit a j) (bit b j) (bit-lt a j) (f j l)) in grind (arith, tells),
+  λ t j l e.
+      let s : bitAnd a b ≡ a = grind (arith, tells) in
+      let m : bit a j ≡ min (bit a j) (bit b j) = ap (λ x. bit x j) (sym s) ∙ bit-and a b j in
+      omega (arith, bit-lt b j),
+  λ f.
+      let s : bitAnd a b ≡ a =
+      same-bits n (bitAnd a b) a (and-lt n a b h k) h (λ j l. bit-and a b j ∙ min-of (bit a j) (bit b j) (bit-lt a j) (f j l)) in
+      grind (arith, tells),
 )
 
 -- no bit of a is one of b
 pub apart-is : (n a b : ℕ) → a < 2 ^ n → b < 2 ^ n → Decides (eqb (bitAnd a b) 0) ((j : ℕ) → j < n → bit b j ≡ 1 → bit a j ≡ 0)
 apart-is n a b h k = (
-  λ t j l e. let s : bitAnd a b ≡ 0 = grind (arith, tells) in let m : bit 0 j ≡ min (bit a j) (bit b j) = ap (λ x. bit x j) (sym s) ∙ bit-and a b j in omega (arith, bit-lt a j, bit-none j),
-  λ f. let s : bitAnd a b ≡ 0 = same-bits n (bitAnd a b) 0 (and-lt n a b h k) (pow-pos n) (λ j l. bit-and a b j ∙ (none-of (bit a j) (bit b j) (bit-lt b j) (f j l) ∙ sym (bit-none j))) in grind (arith, tells),
+  λ t j l e.
+      let s : bitAnd a b ≡ 0 = grind (arith, tells) in
+      let m : bit 0 j ≡ min (bit a j) (bit b j) = ap (λ x. bit x j) (sym s) ∙ bit-and a b j in
+      omega (arith, bit-lt a j, bit-none j),
+  λ f.
+      let s : bitAnd a b ≡ 0 =
+      same-bits n (bitAnd a b) 0 (and-lt n a b h k) (pow-pos n)
+      (λ j l. bit-and a b j ∙ (none-of (bit a j) (bit b j) (bit-lt b j) (f j l) ∙ sym (bit-none j))) in
+      grind (arith, tells),
 )
 
 -- the bits of a number that is moved down
@@ -102,7 +115,9 @@ low-is n x c h = (forth, back)
     back : ((k : ℕ) → k < n → bit x k ≡ 1 → k < c) → eqb (x / 2 ^ c) 0 ≡ true
     back f =
         let d : x / 2 ^ c ≤ x = div-le-self x (2 ^ c) in
-        let s : x / 2 ^ c ≡ 0 = same-bits n (x / 2 ^ c) 0 (omega arith) (pow-pos n) (λ j l. bit-shr x c j ∙ (zero-at (c + j) (λ e. let m = f (c + j) (bit-below x n (c + j) h e) e in omega arith) ∙ sym (bit-none j))) in
+        let s : x / 2 ^ c ≡ 0 =
+        same-bits n (x / 2 ^ c) 0 (omega arith) (pow-pos n)
+        (λ j l. bit-shr x c j ∙ (zero-at (c + j) (λ e. let m = f (c + j) (bit-below x n (c + j) h e) e in omega arith) ∙ sym (bit-none j))) in
         grind (arith, tells)
       where
         zero-at : (i : ℕ) → (bit x i ≡ 1 → ⊥) → bit x i ≡ 0

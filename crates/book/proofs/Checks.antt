@@ -31,7 +31,11 @@ count-end xs i h = at-drop-all checks-among xs i h
 pub place-here : (xs : List Job) (i c : ℕ) (d : Job) → i < length xs → is-check (getD xs i d .check) c ≡ true → place-of-check (drop i xs) c ≡ 0
 place-here xs i c d h e = at-drop-more (λ ys. place-of-check ys c) xs i d h ∙ ap (λ t. cond t 0 (suc (place-of-check (drop (i + 1) xs) c))) e
 
-pub place-on : (xs : List Job) (i c : ℕ) (d : Job) → i < length xs → is-check (getD xs i d .check) c ≡ false → place-of-check (drop i xs) c ≡ suc (place-of-check (drop (i + 1) xs) c)
+pub place-on :
+    (xs : List Job) (i c : ℕ) (d : Job)
+    → i < length xs
+    → is-check (getD xs i d .check) c ≡ false
+    → place-of-check (drop i xs) c ≡ suc (place-of-check (drop (i + 1) xs) c)
 place-on xs i c d h e = at-drop-more (λ ys. place-of-check ys c) xs i d h ∙ ap (λ t. cond t 0 (suc (place-of-check (drop (i + 1) xs) c))) e
 
 pub place-end : (xs : List Job) (i c : ℕ) → length xs ≤ i → place-of-check (drop i xs) c ≡ 0

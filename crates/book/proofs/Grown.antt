@@ -22,7 +22,7 @@ use Rattle.book.specs.declared.parts.Job.{Job}
 use Rattle.book.specs.declared.parts.Bound.{Bound}
 use Rattle.book.specs.declared.parts.Refusal.{Refusal}
 use Rattle.book.specs.Labels.{Names, Wants-yes, Wants-no, Contains, Exclude}
-use Rattle.book.specs.Plain.{Plain, job, bound, checks, asking, no-job, no-bound, new-book, empty-label, one-if-check, is-check, place-of-check, exclude, with-job, with-bound, without-bound, unless, add-job, add-check, add-bound, withdraw, job-refusal, check-refusal, bound-refusal, withdraw-refusal}
+use Rattle.book.specs.Plain.{Plain, job, bound, checks, asking, no-job, one-if-check, place-of-check, with-job}
 use Rattle.book.specs.Sound.{Sound, Sound-job, Sound-bound}
 use Rattle.book.proofs.Bits.{bit-none}
 use Rattle.book.proofs.Tests.{differ, exclude-decides}

@@ -21,7 +21,7 @@ use Rattle.book.specs.declared.parts.Label.{Label}
 use Rattle.book.specs.declared.parts.Bound.{Bound}
 use Rattle.book.specs.declared.parts.Refusal.{Refusal}
 use Rattle.book.specs.Labels.{Names}
-use Rattle.book.specs.Plain.{Plain, job, bound, checks, asking, no-job, no-bound, new-book, empty-label, exclude, one-if-check, with-job, with-bound, without-bound, unless}
+use Rattle.book.specs.Plain.{Plain, job, checks, asking, no-bound, new-book, empty-label, exclude, one-if-check, with-job, with-bound, without-bound, unless}
 use Rattle.book.specs.Plain.{add-job, add-check, add-bound, withdraw, job-refusal, check-refusal, bound-refusal, withdraw-refusal}
 use Rattle.book.specs.Sound.{Sound, Sound-job, Sound-bound}
 use Rattle.book.proofs.Bits.{bit-none}
@@ -57,7 +57,15 @@ new-sound = record {
   each-bound = λ i h. absurd (omega arith);
 }
 
-fitting : (b : Plain) (l : Label) (o : Option ℕ) → l .yes < 2 ^ 8 → l .no < 2 ^ 8 → Sound b → Taken b l → checks b + one-if-check o ≤ 4 → ((c : ℕ) → o ≡ Some c → c ≡ checks b) → Fits b l o
+fitting :
+    (b : Plain) (l : Label) (o : Option ℕ)
+    → l .yes < 2 ^ 8
+    → l .no < 2 ^ 8
+    → Sound b
+    → Taken b l
+    → checks b + one-if-check o ≤ 4
+    → ((c : ℕ) → o ≡ Some c → c ≡ checks b)
+    → Fits b l o
 fitting b l o h k sound t few fresh = record {
   room = t .room;
   few = few;
@@ -85,7 +93,10 @@ add-job-keeps b l h k sound = by (job-refusal b l) refl
 pub add-check-keeps : (b : Plain) (l : Label) → l .yes < 2 ^ 8 → l .no < 2 ^ 8 → Sound b → Sound (add-check b l .after)
 add-check-keeps b l h k sound = by (check-refusal b l) refl
   where
-    by : (o : Option Refusal) → check-refusal b l ≡ o → Sound (unless o (length (b .jobs)) (with-job b (record { label = l; check = Some (checks b) })) b .after)
+    by :
+        (o : Option Refusal)
+        → check-refusal b l ≡ o
+        → Sound (unless o (length (b .jobs)) (with-job b (record { label = l; check = Some (checks b) })) b .after)
     by None e =
         let t = check-taken b l e in
         grown-sound b l (Some (checks b)) sound (fitting b l (Some (checks b)) h k sound (t .0) (omega (arith, t .1)) (λ c q. cc))
@@ -98,7 +109,12 @@ kept-job b bs j s = record { counted = s .counted; known = s .known; one-way = s
 kept-bound : (b : Plain) (bs : List Bound) (m : Bound) → Sound-bound b m → Sound-bound (record { jobs = b .jobs; bounds = bs }) m
 kept-bound b bs m s = record { first-in = s .first-in; second-in = s .second-in; low = s .low; high = s .high; two = s .two; together = s .together }
 
-pub other-bounds : (b : Plain) (bs : List Bound) → Sound b → length bs ≤ 64 → ((i : ℕ) → i < length bs → Sound-bound b (getD bs i no-bound)) → Sound (record { jobs = b .jobs; bounds = bs })
+pub other-bounds :
+    (b : Plain) (bs : List Bound)
+    → Sound b
+    → length bs ≤ 64
+    → ((i : ℕ) → i < length bs → Sound-bound b (getD bs i no-bound))
+    → Sound (record { jobs = b .jobs; bounds = bs })
 other-bounds b bs s few each = record {
   some = s .some;
   few-jobs = s .few-jobs;

@@ -22,7 +22,10 @@ none-applies true r rest e = let z : _≡_ {A = ℕ} 0 1 = cc in absurd (omega a
 none-applies false r rest e = (refl, e)
 
 -- what a call answers, and the book after it, where it is refused and where it is taken
-pub refused-answer : {A : Type 0} (o : Option Refusal) (r : Refusal) (a : A) (x y : Plain) → Some r ≡ o → _≡_ {A = Result A Refusal} (Err r) (unless o a x y .answer)
+pub refused-answer :
+    {A : Type 0} (o : Option Refusal) (r : Refusal) (a : A) (x y : Plain)
+    → Some r ≡ o
+    → _≡_ {A = Result A Refusal} (Err r) (unless o a x y .answer)
 refused-answer o r a x y e = ap (λ p. unless p a x y .answer) e
 
 pub refused-after : {A : Type 0} (o : Option Refusal) (r : Refusal) (a : A) (x y : Plain) → Some r ≡ o → y ≡ unless o a x y .after

@@ -41,7 +41,8 @@ any-holds n p k h t = any-decides n p .1 (k, h, t)
 
 -- what is found by one test on all bits, in place of one test on each
 by-all : (n : ℕ) (p : ℕ → Bool) (P : ℕ → Type 0) (t : Bool) → ((k : ℕ) → Decides (not (p k)) (P k)) → Decides t ((k : ℕ) → k < n → P k) → not t ≡ any-below n p
-by-all n p P true each d = sym (not-true (any-below n p) (λ e. let f = any-decides n p .0 e in clash (p (f .0)) (f .2) (each (f .0) .1 (d .0 refl (f .0) (f .1)))))
+by-all n p P true each d =
+    sym (not-true (any-below n p) (λ e. let f = any-decides n p .0 e in clash (p (f .0)) (f .2) (each (f .0) .1 (d .0 refl (f .0) (f .1)))))
   where
     clash : (x : Bool) → x ≡ true → not x ≡ true → ⊥
     clash true e g = differ (sym g)
@@ -64,29 +65,49 @@ both-at : (a b : ℕ) → a < 2 → b < 2 → Decides (not (eqb a 1 && eqb b 1))
 both-at a b h k = (λ t e. grind (arith, tells), λ f. grind (arith, tells))
 
 pub both-is : (l : Label) → l .yes < 2 ^ 8 → l .no < 2 ^ 8 → not (eqb (bitAnd (l .yes) (l .no)) 0) ≡ both-ways l
-both-is l h k = by-all 8 (λ i. wants-yes l i && wants-no l i) (λ i. Wants-no l i → bit (l .yes) i ≡ 0) (eqb (bitAnd (l .yes) (l .no)) 0) (λ i. both-at (bit (l .yes) i) (bit (l .no) i) (omega arith) (omega arith)) (apart-is 8 (l .yes) (l .no) h k)
+both-is l h k =
+    by-all 8 (λ i. wants-yes l i && wants-no l i) (λ i. Wants-no l i → bit (l .yes) i ≡ 0) (eqb (bitAnd (l .yes) (l .no)) 0)
+    (λ i. both-at (bit (l .yes) i) (bit (l .no) i) (omega arith) (omega arith)) (apart-is 8 (l .yes) (l .no) h k)
 
 lacks-at : (a b c d : ℕ) → Decides (not ((eqb a 1 && not (eqb b 1)) || (eqb c 1 && not (eqb d 1)))) ((a ≡ 1 → b ≡ 1) × (c ≡ 1 → d ≡ 1))
 lacks-at a b c d = (λ t. (λ e. grind (arith, tells), λ e. grind (arith, tells)), λ f. grind (arith, tells, f .0, f .1))
 
-pub lacks-is : (l m : Label) → l .yes < 2 ^ 8 → l .no < 2 ^ 8 → m .yes < 2 ^ 8 → m .no < 2 ^ 8 → (not (eqb (bitAnd (m .yes) (l .yes)) (m .yes)) || not (eqb (bitAnd (m .no) (l .no)) (m .no))) ≡ lacks l m
+pub lacks-is :
+    (l m : Label)
+    → l .yes < 2 ^ 8
+    → l .no < 2 ^ 8
+    → m .yes < 2 ^ 8
+    → m .no < 2 ^ 8
+    → (not (eqb (bitAnd (m .yes) (l .yes)) (m .yes)) || not (eqb (bitAnd (m .no) (l .no)) (m .no))) ≡ lacks l m
 lacks-is l m h k i j =
     let x = eqb (bitAnd (m .yes) (l .yes)) (m .yes) in
     let y = eqb (bitAnd (m .no) (l .no)) (m .no) in
-    not-and x y ∙ by-all 8 (λ n. (wants-yes m n && not (wants-yes l n)) || (wants-no m n && not (wants-no l n))) (λ n. (Wants-yes m n → Wants-yes l n) × (Wants-no m n → Wants-no l n)) (x && y)
+    not-and x y
+    ∙ by-all 8 (λ n. (wants-yes m n && not (wants-yes l n)) || (wants-no m n && not (wants-no l n)))
+    (λ n. (Wants-yes m n → Wants-yes l n) × (Wants-no m n → Wants-no l n)) (x && y)
     (λ n. lacks-at (bit (m .yes) n) (bit (l .yes) n) (bit (m .no) n) (bit (l .no) n))
-    (decides-like (x && y) (λ p n q. (p .0 n q, p .1 n q)) (λ p. (λ n q. p n q .0, λ n q. p n q .1)) (decides-and x y (within-is 8 (m .yes) (l .yes) i h) (within-is 8 (m .no) (l .no) j k)))
+    (decides-like (x && y) (λ p n q. (p .0 n q, p .1 n q)) (λ p. (λ n q. p n q .0, λ n q. p n q .1))
+    (decides-and x y (within-is 8 (m .yes) (l .yes) i h) (within-is 8 (m .no) (l .no) j k)))
 
 exclude-at : (a b c d : ℕ) → a < 2 → c < 2 → Decides (not ((eqb a 1 && eqb b 1) || (eqb c 1 && eqb d 1))) ((b ≡ 1 → a ≡ 0) × (d ≡ 1 → c ≡ 0))
 exclude-at a b c d h k = (λ t. (λ e. grind (arith, tells), λ e. grind (arith, tells)), λ f. grind (arith, tells, f .0, f .1))
 
-pub exclude-is : (l m : Label) → l .yes < 2 ^ 8 → l .no < 2 ^ 8 → m .yes < 2 ^ 8 → m .no < 2 ^ 8 → (not (eqb (bitAnd (l .yes) (m .no)) 0) || not (eqb (bitAnd (l .no) (m .yes)) 0)) ≡ exclude l m
+pub exclude-is :
+    (l m : Label)
+    → l .yes < 2 ^ 8
+    → l .no < 2 ^ 8
+    → m .yes < 2 ^ 8
+    → m .no < 2 ^ 8
+    → (not (eqb (bitAnd (l .yes) (m .no)) 0) || not (eqb (bitAnd (l .no) (m .yes)) 0)) ≡ exclude l m
 exclude-is l m h k i j =
     let x = eqb (bitAnd (l .yes) (m .no)) 0 in
     let y = eqb (bitAnd (l .no) (m .yes)) 0 in
-    not-and x y ∙ by-all 8 (λ n. (wants-yes l n && wants-no m n) || (wants-no l n && wants-yes m n)) (λ n. (Wants-no m n → bit (l .yes) n ≡ 0) × (Wants-yes m n → bit (l .no) n ≡ 0)) (x && y)
+    not-and x y
+    ∙ by-all 8 (λ n. (wants-yes l n && wants-no m n) || (wants-no l n && wants-yes m n))
+    (λ n. (Wants-no m n → bit (l .yes) n ≡ 0) × (Wants-yes m n → bit (l .no) n ≡ 0)) (x && y)
     (λ n. exclude-at (bit (l .yes) n) (bit (m .no) n) (bit (l .no) n) (bit (m .yes) n) (omega arith) (omega arith))
-    (decides-like (x && y) (λ p n q. (p .0 n q, p .1 n q)) (λ p. (λ n q. p n q .0, λ n q. p n q .1)) (decides-and x y (apart-is 8 (l .yes) (m .no) h j) (apart-is 8 (l .no) (m .yes) k i)))
+    (decides-like (x && y) (λ p n q. (p .0 n q, p .1 n q)) (λ p. (λ n q. p n q .0, λ n q. p n q .1))
+    (decides-and x y (apart-is 8 (l .yes) (m .no) h j) (apart-is 8 (l .no) (m .yes) k i)))
 
 pub names-is : (l : Label) (c : ℕ) → eqb (bit (bitOr (l .yes) (l .no)) c) 1 ≡ names l c
 names-is l c = at (bit (l .yes) c) (bit (l .no) c) (bit (bitOr (l .yes) (l .no)) c) (omega arith) (omega arith) (bit-or (l .yes) (l .no) c)
@@ -105,12 +126,15 @@ from-is l c h k =
 
 -- a case meets a label, and a job is done in it
 met-decides : (y n a : ℕ) → Decides (met y n a) ((y ≡ 1 → a ≡ 1) × (n ≡ 1 → a ≡ 0))
-met-decides y n a = decides-and (cond (eqb y 1) (eqb a 1) true) (cond (eqb n 1) (eqb a 0) true) (λ t h. grind (arith, tells), λ f. grind (arith, tells)) (λ t h. grind (arith, tells), λ f. grind (arith, tells))
+met-decides y n a =
+    decides-and (cond (eqb y 1) (eqb a 1) true) (cond (eqb n 1) (eqb a 0) true)
+    (λ t h. grind (arith, tells), λ f. grind (arith, tells)) (λ t h. grind (arith, tells), λ f. grind (arith, tells))
 
 pub met-by-decides : (l : Label) (s : ℕ) → Decides (met-by l s) (Meets l s)
 met-by-decides l s =
     let p : ℕ → Bool = λ k. met (bit (l .yes) k) (bit (l .no) k) (bit s k) in
-    decides-below-and p (λ k. (Wants-yes l k → bit s k ≡ 1) × (Wants-no l k → bit s k ≡ 0)) (λ n. all-below n p) (λ k. met-decides (bit (l .yes) k) (bit (l .no) k) (bit s k)) refl (λ _. refl) 8
+    decides-below-and p (λ k. (Wants-yes l k → bit s k ≡ 1) × (Wants-no l k → bit s k ≡ 0)) (λ n. all-below n p)
+    (λ k. met-decides (bit (l .yes) k) (bit (l .no) k) (bit s k)) refl (λ _. refl) 8
 
 pub done-decides : (b : Plain) (s j : ℕ) → Decides (done b s j) (Done b s j)
 done-decides b s j = met-by-decides (job b j .label) s
@@ -125,5 +149,8 @@ pub exclude-decides : (l m : Label) → Decides (exclude l m) (Exclude l m)
 exclude-decides l m =
     let p : ℕ → Bool = λ k. (wants-yes l k && wants-no m k) || (wants-no l k && wants-yes m k) in
     decides-below-or p (λ k. (Wants-yes l k × Wants-no m k) ⊎ (Wants-no l k × Wants-yes m k)) (λ n. any-below n p)
-    (λ k. decides-or (wants-yes l k && wants-no m k) (wants-no l k && wants-yes m k) (decides-and (wants-yes l k) (wants-no m k) (decides-eqb (bit (l .yes) k) 1) (decides-eqb (bit (m .no) k) 1)) (decides-and (wants-no l k) (wants-yes m k) (decides-eqb (bit (l .no) k) 1) (decides-eqb (bit (m .yes) k) 1)))
+    (λ k.
+    decides-or (wants-yes l k && wants-no m k) (wants-no l k && wants-yes m k)
+    (decides-and (wants-yes l k) (wants-no m k) (decides-eqb (bit (l .yes) k) 1) (decides-eqb (bit (m .no) k) 1))
+    (decides-and (wants-no l k) (wants-yes m k) (decides-eqb (bit (l .no) k) 1) (decides-eqb (bit (m .yes) k) 1)))
     refl (λ _. refl) 8

@@ -19,7 +19,8 @@ use Rattle.book.specs.declared.parts.Kind.the-variants.{Least, Most}
 use Rattle.book.specs.declared.parts.Bound.{Bound}
 use Rattle.book.specs.declared.parts.Table.{Table}
 use Rattle.book.specs.declared.parts.Refusal.{Refusal}
-use Rattle.book.specs.declared.parts.Refusal.the-variants.{JobsFull, ChecksFull, UnknownCheck, BothWays, PartMissing, UnknownJob, MinutesBeyond, SameJob, Exclusive, BoundsFull, UnknownBound}
+use Rattle.book.specs.declared.parts.Refusal.the-variants.{JobsFull, ChecksFull, UnknownCheck, BothWays, PartMissing}
+use Rattle.book.specs.declared.parts.Refusal.the-variants.{UnknownJob, MinutesBeyond, SameJob, Exclusive, BoundsFull, UnknownBound}
 use Rattle.book.specs.Labels.{bit, Meets, wants-yes, wants-no, names, any-below}
 
 pub record Plain : Type 0 where
@@ -133,7 +134,14 @@ abbrev pub full-jobs : Plain → Bool
 full-jobs b = leb 20 (length (b .jobs))
 
 abbrev pub job-refusal : Plain → Label → Option Refusal
-job-refusal b l = first-row (row (full-jobs b) JobsFull ∷ row (names-unknown b l) UnknownCheck ∷ row (both-ways l) BothWays ∷ row (part-missing b l) PartMissing ∷ [])
+job-refusal b l =
+    first-row (
+    row (full-jobs b) JobsFull
+    ∷ row (names-unknown b l) UnknownCheck
+    ∷ row (both-ways l) BothWays
+    ∷ row (part-missing b l) PartMissing
+    ∷ []
+    )
 
 abbrev pub check-refusal : Plain → Label → Option Refusal
 check-refusal b l =

@@ -13,9 +13,10 @@ pub returns-in-Some : need.returns-in-Some
 returns-in-Some c =
     let b = plain (c .args .self .now) in
     let l = c .args .label in
+    let grown = with-job b (record { label = l; check = Some (checks b) }) in
     record {
-      answer = refused-answer (check-refusal b l) (c .in-Some .refusal) (length (b .jobs)) (with-job b (record { label = l; check = Some (checks b) })) b (c .in-Some .ensures tt);
-      after = refused-after (check-refusal b l) (c .in-Some .refusal) (length (b .jobs)) (with-job b (record { label = l; check = Some (checks b) })) b (c .in-Some .ensures tt);
+      answer = refused-answer (check-refusal b l) (c .in-Some .refusal) (length (b .jobs)) grown b (c .in-Some .ensures tt);
+      after = refused-after (check-refusal b l) (c .in-Some .refusal) (length (b .jobs)) grown b (c .in-Some .ensures tt);
       room = c .pre .room;
     }
 
@@ -29,11 +30,12 @@ returns c =
     let t = c .args .self .now in
     let b = plain t in
     let l = c .args .label in
+    let grown = with-job b (record { label = l; check = Some (checks b) }) in
     let e = c .in-rest .ensures tt in
     let n : c .len-n .result ≡ length (b .jobs) = omega (arith, c .len-n .ensures, t .jobs .ok) in
-    let items = c .push-reserved .ensures .items in
+    let items = c .push-reserved .ensures .items ∙ ap (λ k. vec-items (t .jobs) ++ record { label = l; check = Some k } ∷ []) (c .checks .ensures) in
     record {
-      answer = taken-answer (check-refusal b l) (c .len-n .result) (length (b .jobs)) (with-job b (record { label = l; check = Some (checks b) })) b n e;
-      after = taken-after (check-refusal b l) (length (b .jobs)) (with-job b (record { label = l; check = Some (checks b) })) b _ (λ i. record { jobs = (items ∙ ap (λ k. vec-items (t .jobs) ++ record { label = l; check = Some k } ∷ []) (c .checks .ensures)) i; bounds = vec-items (t .bounds) }) e;
+      answer = taken-answer (check-refusal b l) (c .len-n .result) (length (b .jobs)) grown b n e;
+      after = taken-after (check-refusal b l) (length (b .jobs)) grown b _ (λ i. record { jobs = items i; bounds = vec-items (t .bounds) }) e;
       room = (omega (arith, c .push-reserved .ensures .capacity, c .pre .room .0), c .pre .room .1);
     }

@@ -25,11 +25,15 @@ returns-then-lacks-any c =
     let b = plain (c .args .self .now) in
     let l = c .args .label in
     let e = ap (λ n. any-below 8 (λ k. names l k && leb n k)) (c .checks .ensures) in
-    sym (passed (names-unknown b l) _ _ (sym (c .if-names-from .ensures tt ∙ e)) ∙ (passed (both-ways l) _ _ (sym (c .if-wants-both .ensures tt)) ∙ applied (part-missing b l) _ _ (sym (c .if-lacks-any .ensures tt))))
+    sym (passed (names-unknown b l) _ _ (sym (c .if-names-from .ensures tt ∙ e))
+    ∙ (passed (both-ways l) _ _ (sym (c .if-wants-both .ensures tt))
+    ∙ applied (part-missing b l) _ _ (sym (c .if-lacks-any .ensures tt))))
 
 pub returns : need.returns
 returns c =
     let b = plain (c .args .self .now) in
     let l = c .args .label in
     let e = ap (λ n. any-below 8 (λ k. names l k && leb n k)) (c .checks .ensures) in
-    sym (passed (names-unknown b l) _ _ (sym (c .if-names-from .ensures tt ∙ e)) ∙ (passed (both-ways l) _ _ (sym (c .if-wants-both .ensures tt)) ∙ passed (part-missing b l) _ _ (sym (c .if-lacks-any .ensures tt))))
+    sym (passed (names-unknown b l) _ _ (sym (c .if-names-from .ensures tt ∙ e))
+    ∙ (passed (both-ways l) _ _ (sym (c .if-wants-both .ensures tt))
+    ∙ passed (part-missing b l) _ _ (sym (c .if-lacks-any .ensures tt))))
