@@ -15,3 +15,10 @@ pub struct RunSheet {
     ghost shown: { Shown (held book) minutes },
     ghost earliest: { ∥ Earliest (held book) (Dynamic (held book)) (read (held book) minutes) ∥₁ },
 }
+
+// What make ready answers.
+#[derive(Clone, Copy)]
+pub enum Readiness {
+    Yes,
+    No,
+}

@@ -150,6 +150,10 @@ row-fits b sound s h =
     let q = suc-mul s (length (b .jobs)) in
     omega arith
 
+-- a sheet has room for the minutes of every book
+pub size-fits : (b : Plain) → Sound b → cases b * length (b .jobs) ≤ 320
+size-fits b sound = mul-le (cases b) (length (b .jobs)) 16 20 (few-cases b sound) (sound .few-jobs)
+
 -- strategies that agree on the jobs done are alike
 module _ (b : Plain) (sound : Sound b) (M N : Minutes) (same : Alike b M N) where
   check-same : (s : ℕ) → Case b s → (c : ℕ) → c < checks b → Done b s (asking b c) → M s (asking b c) ≡ N s (asking b c)
