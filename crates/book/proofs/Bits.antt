@@ -1,12 +1,12 @@
 -- Laws of the bits of a number.
 use mathlib.Core.Path.{_≡_, sym, ap, _∙_}
 use mathlib.Core.Bool.{true}
-use Prim.Native.Nat.{ℕ, zero, suc, _+_, _-_, _*_, _/_, _%_, _^_, _<_, _≤_, min, max}
+use Prim.Native.Nat.{ℕ, zero, suc, _+_, _-_, _/_, _%_, _^_, _<_, _≤_, min, max}
 use native.Mathlib.Nat.{pow-suc, div-one, zero-div, div-eq-of-lt, div-le-self}
 use native.Mathlib.Numerals.{one-add}
 use native.Mathlib.Omega.{arith}
 use native.Mathlib.Decide.{decLt}
-use lib.Bits.{bitAnd, bitOr, and-step, or-step, and-shr, or-shr, and-lt, or-lt}
+use lib.Bits.{bitAnd, bitOr, and-step, or-step, and-shr, or-shr, and-lt}
 use lib.Dec.{eqb}
 use lib.Pow.{pow-mono}
 use Rattle.std.specs.Orderings.{Decides}

@@ -1,34 +1,22 @@
 -- A sound plain book with one job more is sound.
 use mathlib.Core.Path.{_≡_, refl, sym, ap, subst, _∙_}
-use mathlib.Core.Bool.{Bool, true, false, cond, _||_}
-use mathlib.Core.List.{List, [], _∷_, _++_}
-use mathlib.Core.Logic.{_⊎_, inl, inr, _≢_}
-use Prim.Native.Nat.{ℕ, zero, suc, _+_, _^_, _≤_, _<_}
+use mathlib.Core.Bool.{cond}
+use mathlib.Core.List.{[], _∷_}
+use Prim.Native.Nat.{ℕ, _+_, _≤_, _<_}
 use native.Mathlib.Omega.{arith}
 use native.Mathlib.Decide.{decLt}
-use lib.Dec.{eqb, leb}
-use lib.IntN.{ℤ, pos, negℤ, natAbs}
-use lib.ListN.{length, getD}
-use lib.Signed.{_≤ℤ_}
+use lib.ListN.{length}
 use Rattle.std.specs.declared.option.Option.{Option}
 use Rattle.std.specs.declared.option.Option.the-variants.{Some, None}
-use Rattle.std.specs.shelf.Lists.{removed}
 use Rattle.std.proofs.shelf.Lists.{getD-append-left, getD-push, length-push}
-use Rattle.std.proofs.shelf.Edits.{length-removed, getD-removed-below, getD-removed-above}
-use Rattle.std.proofs.shelf.Signed.{ints}
-use Rattle.std.proofs.shelf.Ways.{tells, decides-eqb}
+use Rattle.std.proofs.shelf.Ways.{decides-eqb}
 use Rattle.book.specs.declared.parts.Label.{Label}
 use Rattle.book.specs.declared.parts.Job.{Job}
 use Rattle.book.specs.declared.parts.Bound.{Bound}
-use Rattle.book.specs.declared.parts.Refusal.{Refusal}
 use Rattle.book.specs.Labels.{Names, Wants-yes, Wants-no, Contains, Exclude}
 use Rattle.book.specs.Plain.{Plain, job, bound, checks, asking, no-job, one-if-check, place-of-check, with-job}
 use Rattle.book.specs.Sound.{Sound, Sound-job, Sound-bound}
-use Rattle.book.proofs.Bits.{bit-none}
-use Rattle.book.proofs.Tests.{differ, exclude-decides}
-use Rattle.book.proofs.Checks.{count-push, place-le, place-push, place-past, place-found}
-use Rattle.book.proofs.Rows.{none-applies}
-use Rattle.book.proofs.Refused.{Taken, job-taken, check-taken, label-known, label-one-way, label-parts, label-contains}
+use Rattle.book.proofs.Checks.{count-push, place-push, place-past, place-found}
 
 -- what a new job, with its check number if any, has to fit
 pub record Fits (b : Plain) (l : Label) (o : Option ℕ) : Type 0 where

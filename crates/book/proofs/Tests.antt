@@ -8,7 +8,7 @@ use native.Mathlib.Omega.{arith}
 use lib.Bits.{bitAnd, bitOr, or-lt}
 use lib.Dec.{eqb, leb}
 use Rattle.std.specs.Orderings.{Decides}
-use Rattle.std.proofs.shelf.Ways.{tells, decides-below-and, decides-below-or, decides-and, decides-or, decides-like, decides-eqb, decides-not}
+use Rattle.std.proofs.shelf.Ways.{tells, decides-below-and, decides-below-or, decides-and, decides-or, decides-like, decides-eqb}
 use Rattle.book.specs.declared.parts.Label.{Label}
 use Rattle.book.specs.Labels.{bit, Meets, Names, Wants-yes, Wants-no, Exclude, wants-yes, wants-no, names, any-below, all-below}
 use Rattle.book.specs.Plain.{Plain, Done, job, both-ways, lacks, exclude}

@@ -1,10 +1,9 @@
 -- The plain book: a list of jobs and a list of bounds, and what each call does to them and answers.
-use mathlib.Core.Path.{_≡_}
-use mathlib.Core.Bool.{Bool, true, false, cond, not, _&&_, _||_}
+use mathlib.Core.Bool.{Bool, false, cond, not, _&&_, _||_}
 use mathlib.Core.List.{List, [], _∷_, _++_}
-use Prim.Native.Nat.{ℕ, zero, suc, _+_, _^_, _<_}
+use Prim.Native.Nat.{ℕ, suc, _+_, _^_, _<_}
 use lib.Dec.{eqb, leb}
-use lib.IntN.{ℤ, pos, natAbs}
+use lib.IntN.{pos, natAbs}
 use lib.ListN.{length, getD}
 use Rattle.std.specs.declared.option.Option.{Option}
 use Rattle.std.specs.declared.option.Option.the-variants.{Some, None}
@@ -14,14 +13,13 @@ use Rattle.std.specs.shelf.Lists.{removed}
 use Rattle.std.specs.Of.Vec.{vec-items}
 use Rattle.book.specs.declared.parts.Label.{Label}
 use Rattle.book.specs.declared.parts.Job.{Job}
-use Rattle.book.specs.declared.parts.Kind.{Kind}
-use Rattle.book.specs.declared.parts.Kind.the-variants.{Least, Most}
+use Rattle.book.specs.declared.parts.Kind.the-variants.{Least}
 use Rattle.book.specs.declared.parts.Bound.{Bound}
 use Rattle.book.specs.declared.parts.Table.{Table}
 use Rattle.book.specs.declared.parts.Refusal.{Refusal}
 use Rattle.book.specs.declared.parts.Refusal.the-variants.{JobsFull, ChecksFull, UnknownCheck, BothWays, PartMissing}
 use Rattle.book.specs.declared.parts.Refusal.the-variants.{UnknownJob, MinutesBeyond, SameJob, Exclusive, BoundsFull, UnknownBound}
-use Rattle.book.specs.Labels.{bit, Meets, wants-yes, wants-no, names, any-below}
+use Rattle.book.specs.Labels.{Meets, wants-yes, wants-no, names, any-below}
 
 pub record Plain : Type 0 where
   pub jobs : List Job

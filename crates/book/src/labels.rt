@@ -1,10 +1,10 @@
 // Labels, compared as two sets of checks.
 ghost use mathlib.Core.Path.{_≡_};
-ghost use mathlib.Core.Bool.{Bool, not, _&&_, _||_};
-ghost use Prim.Native.Nat.{ℕ, _≤_, _<_};
+ghost use mathlib.Core.Bool.{_&&_};
+ghost use Prim.Native.Nat.{_<_};
 ghost use lib.Dec.{leb};
 ghost use Rattle.std.specs.Orderings.{Decides};
-ghost use Rattle.book.specs.Labels.{Meets, wants-yes, wants-no, names, any-below};
+ghost use Rattle.book.specs.Labels.{Meets, names, any-below};
 ghost use Rattle.book.specs.Plain.{both-ways, lacks, exclude};
 use crate::parts::Label;
 

@@ -1,9 +1,8 @@
 use mathlib.Core.Path.{_≡_, sym, ap, subst, _∙_}
-use mathlib.Core.List.{List, [], _∷_, _++_}
+use mathlib.Core.List.{[], _∷_, _++_}
 use native.Mathlib.Omega.{arith}
-use borrow.Author.Needs.{needs}
 use Rattle.std.specs.Of.Vec.{vec-items}
-use Rattle.book.specs.Plain.{Plain, plain, new-book, no-job}
+use Rattle.book.specs.Plain.{plain, new-book, no-job}
 use Rattle.book.specs.Sound.{Sound}
 use Rattle.book.proofs.Kept.{new-sound}
 use Rattle.book.proofs.keeping.Book.new.Needs as need

@@ -1,5 +1,5 @@
-use mathlib.Core.Path.{_≡_, sym, ap, _∙_}
-use mathlib.Core.Bool.{Bool, _&&_}
+use mathlib.Core.Path.{sym, ap, _∙_}
+use mathlib.Core.Bool.{_&&_}
 use lib.Dec.{leb}
 use Rattle.book.specs.Labels.{names, any-below}
 use Rattle.book.specs.Plain.{plain, names-unknown, both-ways, part-missing}
