@@ -1,6 +1,6 @@
 -- The minutes list, filled case by case.
 use mathlib.Core.Path.{_≡_, refl, sym, ap, _∙_}
-use mathlib.Core.Bool.{Bool, true, false, cond}
+use mathlib.Core.Bool.{Bool, cond}
 use mathlib.Core.List.{List, [], _∷_, _++_, map, append-assoc, append-nil}
 use Prim.Native.Nat.{ℕ, zero, suc, _+_, _-_, _*_, _≤_, _<_}
 use native.Mathlib.Nat.{suc-mul, zero-mul, add-zero}
@@ -17,12 +17,12 @@ use Rattle.std.specs.Orderings.{Decides}
 use Rattle.std.proofs.shelf.Ways.{same-from-decides}
 use Rattle.book.specs.declared.parts.Label.{Label}
 use Rattle.book.specs.Labels.{Meets}
-use Rattle.book.specs.Plain.{Plain, cases}
+use Rattle.book.specs.Plain.{Plain}
 use Rattle.rules.specs.Rules.{at}
 use Rattle.book.specs.Done.{met-by, done}
 use Rattle.book.proofs.Tests.{met-by-decides}
 use Rattle.grades.specs.Systems.{each-below}
-use Rattle.verdicts.specs.Filling.{spread, block, blocks}
+use Rattle.verdicts.specs.Filling.{block}
 
 -- one more element of a front that is written
 pub wrote : {X : Type 0} (a e : List X) (i : ℕ) (y : X) → length a ≡ i → i < length e → set (a ++ drop i e) i y ≡ (a ++ (y ∷ [])) ++ drop (i + 1) e

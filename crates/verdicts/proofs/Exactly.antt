@@ -3,10 +3,9 @@ use mathlib.Core.Path.{_≡_, refl}
 use mathlib.Core.HLevel.{⊥-prop}
 use mathlib.Core.List.{List}
 use mathlib.Core.Logic.{∥∥₁-elim}
-use Prim.Native.Nat.{ℕ, _≤_, _<_}
+use Prim.Native.Nat.{ℕ}
 use native.Mathlib.Omega.{arith}
 use lib.IntN.{ℤ}
-use lib.ListN.{length}
 use Rattle.std.specs.declared.option.Option.{Option}
 use Rattle.std.specs.declared.option.Option.the-variants.{Some, None}
 use Rattle.std.specs.declared.result.Result.{Result}
@@ -20,10 +19,9 @@ use Rattle.verdicts.specs.declared.answers.StrongAnswer.{StrongAnswer}
 use Rattle.verdicts.specs.declared.answers.StrongAnswer.the-variants.{Yes as StrongYes, No as StrongNo}
 use Rattle.verdicts.specs.declared.answers.WeakAnswer.{WeakAnswer}
 use Rattle.verdicts.specs.declared.answers.WeakAnswer.the-variants.{Yes as WeakYes, No as WeakNo}
-use Rattle.verdicts.specs.declared.answers.DynamicAnswer.{DynamicAnswer}
 use Rattle.verdicts.specs.declared.answers.DynamicAnswer.the-variants.{Yes as DynamicYes, No as DynamicNo}
-use Rattle.verdicts.specs.Verdicts.{size, Room, Short, No-strategy}
-use Rattle.verdicts.specs.Exact.{refused, Some-strategy, Refused-exactly, Strong-exact, Weak-exact, Dynamic-exact}
+use Rattle.verdicts.specs.Verdicts.{Room, Short, No-strategy}
+use Rattle.verdicts.specs.Exact.{Some-strategy, Refused-exactly, Strong-exact, Weak-exact, Dynamic-exact}
 
 none-some : {n : ℕ} {P : Type 0} → _≡_ {A = Option ℕ} None (Some n) → P
 none-some e = let z : _≡_ {A = ℕ} 0 1 = cc in absurd (omega arith)
@@ -74,17 +72,17 @@ pub weak-exactly : Weak-exact
 weak-exactly b before after loops loops-after (Ok WeakYes) (room, ((minute, earliest, _), _)) = (
   answered b before loops WeakYes room,
   (λ _. refl, λ _. (room, ∣ (minute, earliest .good) ∣₁)),
-  (λ h. absurd (h .1 minute (earliest .good)), λ (s, n, q). let z : _≡_ {A = ℕ} 0 1 = cc in absurd (omega arith)),
+  (λ h. absurd (h .1 minute (earliest .good)), λ (s, n, _, q). let z : _≡_ {A = ℕ} 0 1 = cc in absurd (omega arith)),
 )
-weak-exactly b before after loops loops-after (Ok (WeakNo s n)) (room, (none, _, _, _)) = (
+weak-exactly b before after loops loops-after (Ok (WeakNo s n)) (room, (none, lowest, _, _)) = (
   answered b before loops (WeakNo s n) room,
   (λ h. none-there _ none (h .1), λ q. let z : _≡_ {A = ℕ} 0 1 = cc in absurd (omega arith)),
-  (λ _. (s, n, refl), λ _. (room, none)),
+  (λ _. (s, n, lowest, refl), λ _. (room, none)),
 )
 weak-exactly b before after loops loops-after (Err e) (lacks, _, _) = (
   short WeakAnswer b before loops e lacks,
   (λ h. no-room b before loops e lacks (h .0), ok-err),
-  (λ h. no-room b before loops e lacks (h .0), λ (s, n, q). ok-err q),
+  (λ h. no-room b before loops e lacks (h .0), λ (s, n, _, q). ok-err q),
 )
 
 pub dynamic-exactly : Dynamic-exact

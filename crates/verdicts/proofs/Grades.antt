@@ -3,7 +3,7 @@ use mathlib.Core.Path.{_≡_, sym, ap, subst, _∙_}
 use mathlib.Core.Bool.{cond}
 use mathlib.Core.List.{List, [], _∷_, _++_, map}
 use mathlib.Core.Logic.{_⊎_, ⊎-elim}
-use Prim.Native.Nat.{ℕ, zero, suc, _+_, _-_, _*_, _≤_, _<_}
+use Prim.Native.Nat.{ℕ, suc, _+_, _*_, _≤_, _<_}
 use native.Mathlib.Nat.{mul-zero, zero-add, suc-mul, mul-le-mul, mul-le-mul-right}
 use native.Mathlib.Omega.{arith}
 use lib.Dec.{eqb}
@@ -16,7 +16,7 @@ use Rattle.std.proofs.shelf.Ways.{tells}
 use Rattle.book.specs.Done.{done}
 use Rattle.book.specs.Plain.{Plain, Case, cases}
 use Rattle.book.specs.Sound.{Sound}
-use Rattle.rules.specs.Rules.{System, Keeps, Least, None-keeps, at}
+use Rattle.rules.specs.Rules.{System, Least, at}
 use Rattle.rules.specs.declared.parts.Origin.{Origin}
 use Rattle.find.specs.declared.answers.Explained.{Explained}
 use Rattle.find.specs.declared.answers.Explained.the-variants as explained
@@ -27,7 +27,7 @@ use Rattle.find.specs.declared.answers.Refusal.the-variants.{MinutesShort, Loop
 use Rattle.find.specs.Answers.{Finds, Explains, Looped, Too-short}
 use Rattle.std.specs.declared.result.Result.{Result}
 use Rattle.std.specs.declared.result.Result.the-variants.{Ok}
-use Rattle.grades.specs.Grades.{Minutes, Strong, Weak, Dynamic, Earliest}
+use Rattle.grades.specs.Grades.{Minutes, Strong, Weak, Dynamic}
 use Rattle.grades.specs.Systems.{strong-system, weak-system, dynamic-system, strong-origins, weak-origins, strong-reads, weak-reads, reads, listed}
 use Rattle.grades.proofs.Strong.{strong-tables}
 use Rattle.grades.proofs.Weak.{weak-tables}

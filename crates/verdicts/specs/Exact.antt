@@ -44,13 +44,13 @@ Strong-exact = (b : Plain) (before after : List ℤ) (loops loops-after : List O
     × ((Room b before loops × Some-strategy (Strong b)) ↔ (r ≡ Ok StrongYes))
     × ((Room b before loops × No-strategy (Strong b)) ↔ ((n : ℕ) × (r ≡ Ok (StrongNo n))))
 
--- the same of weak, and a no names case s exactly where s is the lowest failing case
+-- the same of weak, where a no names the lowest failing case
 abbrev pub Weak-exact : Type 0
 Weak-exact = (b : Plain) (before after : List ℤ) (loops loops-after : List Origin) (r : Result WeakAnswer Refusal) →
     Weak-answered b before after loops loops-after r →
     Refused-exactly b before loops r
     × ((Room b before loops × Some-strategy (Weak b)) ↔ (r ≡ Ok WeakYes))
-    × ((Room b before loops × No-strategy (Weak b)) ↔ ((s : ℕ) × (n : ℕ) × (r ≡ Ok (WeakNo s n))))
+    × ((Room b before loops × No-strategy (Weak b)) ↔ ((s : ℕ) × (n : ℕ) × Lowest-failing b s × (r ≡ Ok (WeakNo s n))))
 
 -- the same of dynamic, which has no loop list
 abbrev pub Dynamic-exact : Type 0

@@ -1,7 +1,7 @@
 // A table of minutes, spread over the minutes list case by case.
 ghost use mathlib.Core.Path.{_≡_};
 ghost use mathlib.Core.Bool.{cond};
-ghost use Prim.Native.Nat.{ℕ, _+_, _*_, _<_, _≤_};
+ghost use Prim.Native.Nat.{ℕ, _+_, _*_, _≤_};
 ghost use lib.IntN.{negsuc};
 ghost use lib.ListN.{length};
 ghost use Rattle.book.specs.Plain.{Case};
