@@ -1,5 +1,6 @@
 -- How long a sheet can be: its names have at most 8 letters, its minutes at most 10 digits.
 use mathlib.Core.Path.{_≡_, refl, ap}
+use mathlib.Core.Bool.{Bool, true, false}
 use mathlib.Core.List.{List, [], _∷_, _++_}
 use Prim.Native.Nat.{ℕ, zero, suc, _+_, _*_, _^_, _≤_, _<_}
 use native.Mathlib.Omega.{arith}
@@ -11,13 +12,21 @@ use lib.Signed.{mag}
 use Rattle.std.specs.Written.{decimal}
 use Rattle.std.proofs.shelf.Decimals.{length-decimal-le}
 use Rattle.format.specs.declared.parts.NamePlace.{NamePlace}
-use Rattle.book.specs.Plain.{Plain, asking}
+use Rattle.format.specs.declared.parts.Fault.{Fault}
+use Rattle.format.specs.declared.parts.FileFault.{FileFault}
+use Rattle.format.specs.declared.parts.FileFault.the-variants.{TooLong, Unfinished, WrongLine, NotANumber, BadName, NameTaken, NameReserved, UnknownName, Trailing, NamesShort}
+use Rattle.format.specs.declared.parts.Reason.{Reason}
+use Rattle.format.specs.declared.parts.Reason.the-variants.{File, Book}
+use Rattle.format.specs.Faults.{file-number, reason-number}
+use Rattle.book.specs.declared.parts.Refusal.{Refusal}
+use Rattle.book.specs.declared.parts.Refusal.the-variants.{JobsFull, ChecksFull, UnknownCheck, BothWays, PartMissing, UnknownJob, MinutesBeyond, SameJob, Exclusive, BoundsFull, UnknownBound}
+use Rattle.book.specs.Plain.{Plain, asking, number}
 use Rattle.book.specs.Sound.{Sound}
 use Rattle.rules.specs.declared.parts.Origin.{Origin}
 use Rattle.rules.specs.declared.parts.Origin.the-variants.{Bound, Start, Check}
 use Rattle.sheet.specs.declared.grade.Grade.{Grade}
 use Rattle.sheet.specs.declared.grade.Grade.the-variants.{Strong, Dynamic, Weak}
-use Rattle.sheet.specs.Sheet.{line, grade-word, job-line, job-lines, jobs-done, one-if-done, row-of, case-lines, cases-lines, table-lines, Within, origin-line, origin-lines, loop-lines, no-place, name-of, Named}
+use Rattle.sheet.specs.Sheet.{layer-word, fault-line, answer-word, verdict-lines, line, grade-word, job-line, job-lines, jobs-done, one-if-done, row-of, case-lines, cases-lines, table-lines, Within, origin-line, origin-lines, loop-lines, no-place, name-of, Named}
 
 pub digits-2 : (n : ℕ) → n < 100 → length (decimal n) ≤ 2
 digits-2 n h = length-decimal-le 2 n (omega arith) h (omega arith)
@@ -56,6 +65,17 @@ pub cases-fit : (name : ℕ → List ℕ) (jobs : ℕ) (minutes : List ℤ) (s k
 cases-fit name jobs minutes s k row more p q one =
     let lines : length (case-lines name jobs s (row-of minutes jobs s)) ≤ 416 = rw (p, q) at one in
     rw (add-one s) (rw (length-append (cases-lines name jobs minutes s) (case-lines name jobs s (row-of minutes jobs s))) (omega arith))
+
+pub answer-fits : (b : Bool) → length (answer-word b) ≤ 3
+answer-fits true = omega arith
+answer-fits false = omega arith
+
+pub verdicts-fit : (strong dynamic weak : Bool) → length (verdict-lines strong dynamic weak) ≤ 32
+verdicts-fit strong dynamic weak =
+    let a = answer-fits strong in
+    let b = answer-fits dynamic in
+    let c = answer-fits weak in
+    simp length-append (omega arith)
 
 pub grade-fits : (g : Grade) → length (grade-word g) ≤ 7
 grade-fits Strong = omega arith
@@ -99,4 +119,41 @@ loop-fits b name case origins s names h l few =
     let lines = origins-fit b name origins (length origins) s names h in
     let a = digits-2 case l in
     let d = digits-2 (length origins) (omega arith) in
+    simp length-append (omega arith)
+
+-- a fault's number has two digits, and its line and byte at most 20
+book-number : (r : Refusal) → number r < 100
+book-number JobsFull = omega arith
+book-number ChecksFull = omega arith
+book-number UnknownCheck = omega arith
+book-number BothWays = omega arith
+book-number PartMissing = omega arith
+book-number UnknownJob = omega arith
+book-number MinutesBeyond = omega arith
+book-number SameJob = omega arith
+book-number Exclusive = omega arith
+book-number BoundsFull = omega arith
+book-number UnknownBound = omega arith
+
+file-number-fits : (f : FileFault) → file-number f < 100
+file-number-fits TooLong = omega arith
+file-number-fits Unfinished = omega arith
+file-number-fits WrongLine = omega arith
+file-number-fits NotANumber = omega arith
+file-number-fits BadName = omega arith
+file-number-fits NameTaken = omega arith
+file-number-fits NameReserved = omega arith
+file-number-fits UnknownName = omega arith
+file-number-fits Trailing = omega arith
+file-number-fits NamesShort = omega arith
+
+reason-fits : (r : Reason) → (length (decimal (reason-number r)) ≤ 2) × (length (layer-word r) ≤ 4)
+reason-fits (File f) = (digits-2 (file-number f) (file-number-fits f), omega arith)
+reason-fits (Book r) = (digits-2 (number r) (book-number r), omega arith)
+
+pub fault-fits : (f : Fault) → f .line < 2 ^ 64 → f .byte < 2 ^ 64 → length (fault-line f) ≤ 8192
+fault-fits f h k =
+    let (number, layer) = reason-fits (f .reason) in
+    let a = length-decimal-le 20 (f .line) (omega arith) (omega arith) h in
+    let b = length-decimal-le 20 (f .byte) (omega arith) (omega arith) k in
     simp length-append (omega arith)

@@ -1,4 +1,5 @@
 mod Fits
+mod Judging
 mod Origins
 mod Placed
 mod Rows

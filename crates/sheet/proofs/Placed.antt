@@ -8,6 +8,7 @@ use lib.Chars.{codes}
 use lib.ListN.{length, getD, length-append}
 use Rattle.std.specs.declared.option.Option.{Option}
 use Rattle.std.specs.declared.option.Option.the-variants.{Some, None}
+use Rattle.std.specs.declared.result.Result.the-variants.{Ok}
 use Rattle.std.specs.Written.{decimal}
 use Rattle.std.proofs.shelf.Lists.{length-push}
 use Rattle.book.specs.declared.parts.Kind.{Kind}
@@ -21,10 +22,10 @@ use Rattle.format.specs.declared.parts.Work.{Work}
 use Rattle.format.specs.declared.parts.Work.the-variants.{Job, Check}
 use Rattle.format.specs.Format.{Job-line, Bound-line, Plan-text, Known, at-first, after, after-all, work-word, kind-word, want-word, job-words, bound-words, count-words, plan-lines, spaced, ended, written, Every, Well-formed, Good-jobs, Good-bound}
 use Rattle.format.specs.Entered.{Accepts, add, label-in, bound-in, call-job, call-bound, book-after-jobs, book-after-bounds, book-of, Takes-jobs, Takes-bounds, Book-takes}
-use Rattle.format.specs.Faults.{cut, work-of, if-work, line-name, job-names, names-of}
+use Rattle.format.specs.Faults.{Reading, outcome, cut, work-of, if-work, line-name, job-names, names-of}
 use Rattle.format.proofs.Cuts.{Free, cut-spaced, cut-ended}
 use Rattle.format.proofs.Inks.{Inky, jobs-inky, bounds-inky, job-inky, bound-inky, count-inky, frees, free-lines, all-jobs, all-bounds}
-use Rattle.format.proofs.Sound.{pieces}
+use Rattle.format.proofs.Sound.{pieces, read-sound}
 use Rattle.sheet.specs.Sheet.{no-place, Name-in, Named}
 
 -- where the names of the job lines stand, the first line beginning at byte b
@@ -162,3 +163,16 @@ jobs-counted p h =
     let known = after-all at-first (p .jobs) in
     let jobs = jobs-more (p .jobs) at-first new-book (h .0) in
     omega (arith, jobs, bounds-same (p .bounds) known (book-after-jobs at-first new-book (p .jobs)))
+
+-- the names of a text that is read: one for each job but `start`
+pub names-counted : (room : ℕ) (text : List ℕ) (s : Reading) → outcome room text ≡ Ok s
+    → Named text (names-of text) (length (s .book .jobs)) × (length (s .book .jobs) ≡ suc (length (names-of text)))
+names-counted room text s e =
+    let r = read-sound room text s e in
+    let p = r .plan in
+    let w = r .writes .well-formed in
+    let jobs : length (s .book .jobs) ≡ suc (length (p .jobs)) = ap (λ x. length (x .book .jobs)) (sym (r .is)) ∙ jobs-counted p (r .writes .taken) in
+    let count : length (names-of (written p)) ≡ length (p .jobs) = ap length (names-are room p w) ∙ places-long (p .jobs) (first-job p) in
+    let named : Named text (names-of text) (suc (length (p .jobs))) = subst (λ t. Named t (names-of t) (suc (length (p .jobs)))) (sym (r .writes .text)) (all-named room p w) in
+    let long : length (names-of text) ≡ length (p .jobs) = ap (λ t. length (names-of t)) (r .writes .text) ∙ count in
+    (subst (λ n. Named text (names-of text) n) (sym jobs) named, omega (arith, jobs, long))

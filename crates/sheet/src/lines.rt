@@ -34,7 +34,8 @@ fn layer_word(reason: Reason) -> &'static str
 
 // Puts the line of a fault.
 pub(crate) fn put_fault(heap: Global, page: &mut Vec<u8>, fault: Fault) -> Result<(), AllocError>
-    ensures { λ r. ⌜ made r (λ _. vec-items (now (page .exit)) ≡ vec-items (now (page .entry)) ++ fault-line fault) ⌝ }
+    ensures put { λ r. ⌜ made r (λ _. vec-items (now (page .exit)) ≡ vec-items (now (page .entry)) ++ fault-line fault) ⌝ }
+    ensures short { λ r. ⌜ made r (λ _. length (fault-line fault) ≤ 8192) ⌝ }
 {
     let layer = layer_word(fault.reason);
     let number = fault_number(fault.reason);
@@ -44,7 +45,8 @@ pub(crate) fn put_fault(heap: Global, page: &mut Vec<u8>, fault: Fault) -> Resul
         byte,
     } = fault;
     let text = format!(heap, "fault {layer} {number} line {line} byte {byte}\n")?;
-    page.extend_from_slice(text.as_bytes())
+    page.extend_from_slice(text.as_bytes())?;
+    Ok(())
 }
 
 // The word of a grade.

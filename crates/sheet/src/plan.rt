@@ -8,10 +8,17 @@ ghost use Rattle.std.specs.Vec.{made};
 ghost use Rattle.book.specs.Plain.{cases};
 ghost use Rattle.book.specs.Held.{held};
 ghost use Rattle.rules.specs.declared.parts.Origin.the-variants.{Bound as OfBound};
+ghost use Rattle.verdicts.specs.Verdicts.{size};
 ghost use Rattle.sheet.specs.Sheet.{rest-lines, Within, name-of, Named};
+ghost use Rattle.sheet.specs.Judged.{Judged, Sheet-put};
 use crate::grade::Grade;
 use crate::lines::put_loop;
 use crate::lines::put_table;
+use crate::lines::put_verdicts;
+use crate::lines::strongest;
+use crate::judge::judge;
+use crate::verdict::Verdicts;
+use crate::verdict::Weakly;
 use book::keeping::Book;
 use format::parts::NamePlace;
 use rules::parts::Origin;
@@ -59,4 +66,52 @@ pub(crate) fn put_rest(
             Ok(())
         }
     }
+}
+
+// Puts the three verdicts, and what follows them.
+fn put_judged(
+    heap: Global,
+    page: &mut Vec<u8>,
+    book: &Book,
+    text: &[u8],
+    places: &[NamePlace],
+    said: Verdicts,
+    minutes: &[i32],
+    origins: &[Origin],
+) -> Result<(), AllocError>
+    requires named { ⌜ Named (now text) (now places) (length (held (now book) .jobs)) ⌝ }
+    requires room { ⌜ size (held (now book)) ≤ length (now minutes) ⌝ }
+    requires list { ⌜ 20 ≤ length (now origins) ⌝ }
+    requires judged { ⌜ Judged (held (now book)) (now minutes) (now origins) said ⌝ }
+    ensures { λ r. ⌜ made r (λ _. Sheet-put (held (now (book .entry))) (name-of (now (text .entry)) (now (places .entry))) (vec-items (now (page .entry))) (vec-items (now (page .exit)))) ⌝ }
+{
+    let Verdicts {
+        strong,
+        dynamic,
+        weakly,
+    } = said;
+    let Weakly { good, case, length } = weakly;
+    let size = book.cases() as usize * book.jobs().len();
+    put_verdicts(heap, page, strong, dynamic, good)?;
+    let grade = strongest(strong, dynamic, good);
+    put_rest(heap, page, book, text, places, grade, &minutes[0..size], case, &origins[0..length])?;
+    Ok(())
+}
+
+// Puts the sheet of a plan.
+pub(crate) fn put_plan(
+    heap: Global,
+    page: &mut Vec<u8>,
+    book: &Book,
+    text: &[u8],
+    places: &[NamePlace],
+) -> Result<(), AllocError>
+    requires named { ⌜ Named (now text) (now places) (length (held (now book) .jobs)) ⌝ }
+    ensures { λ r. ⌜ made r (λ _. Sheet-put (held (now (book .entry))) (name-of (now (text .entry)) (now (places .entry))) (vec-items (now (page .entry))) (vec-items (now (page .exit)))) ⌝ }
+{
+    let mut minutes = [0i32; 320];
+    let mut origins = [Origin::Start(0); 20];
+    let said = judge(book, &mut minutes, &mut origins);
+    put_judged(heap, page, book, text, places, said, &minutes, &origins)?;
+    Ok(())
 }
