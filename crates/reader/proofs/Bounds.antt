@@ -72,33 +72,40 @@ module _ (bytes : List ℕ) (first end : ℕ) (p : Piece 32 bytes 0 first) (q : 
     at-second-job : b + length (take first bytes) + length (part bytes (first + 1) end) + 2 ≡ b + (end + 1)
     at-second-job = omega (arith, length-take-le first bytes (p .within), part-long bytes (first + 1) end (q .from) (q .within), q .from)
 
-    pub judged : (at start : ℕ) (w : List ℕ) (found : Option ℕ) (x : Result ℕ Fault) → at ≡ b + start → found ≡ job-number ks w → x ≡ named-as found l (b + start) w → job-named ks l at w ≡ x
+    pub judged : (at start : ℕ) (w : List ℕ) (found : Option ℕ) (x : Result ℕ Fault) → at ≡ b + start → found ≡ job-number ks w
+        → x ≡ named-as found l (b + start) w → job-named ks l at w ≡ x
     judged at start w found x e f n = ap (λ m. job-named ks l m w) e ∙ (ap (λ y. named-as y l (b + start) w) (sym f) ∙ sym n)
 
-    pub first-stop : (found : Option ℕ) (e : Fault) → found ≡ job-number ks (part bytes (first + 1) end) → Err e ≡ named-as found l (b + (first + 1)) (part bytes (first + 1) end) → bound-of ks o l b (cut 32 bytes) ≡ Err e
+    pub first-stop : (found : Option ℕ) (e : Fault) → found ≡ job-number ks (part bytes (first + 1) end)
+        → Err e ≡ named-as found l (b + (first + 1)) (part bytes (first + 1) end) → bound-of ks o l b (cut 32 bytes) ≡ Err e
     first-stop found e f n =
         let (u, t, s) = two-of (pieces-from 32 bytes (end + 1)) two-left in
         ap (bound-of ks o l b) (words ∙ ap (λ z. take first bytes ∷ (part bytes (first + 1) end ∷ z)) s)
         ∙ bound-first-stop ks o l b (take first bytes) (part bytes (first + 1) end) u t k kind e (judged _ (first + 1) _ found (Err e) at-first-job f n)
 
-    module _ (i : ℕ) (found : Option ℕ) (f : found ≡ job-number ks (part bytes (first + 1) end)) (n : Ok i ≡ named-as found l (b + (first + 1)) (part bytes (first + 1) end)) (after : ℕ) (r : Piece 32 bytes (end + 1) after) where
+    module _ (i : ℕ) (found : Option ℕ) (f : found ≡ job-number ks (part bytes (first + 1) end))
+        (n : Ok i ≡ named-as found l (b + (first + 1)) (part bytes (first + 1) end)) (after : ℕ) (r : Piece 32 bytes (end + 1) after) where
       first-is : job-named ks l (b + length (take first bytes) + 1) (part bytes (first + 1) end) ≡ Ok i
       first-is = judged _ (first + 1) _ found (Ok i) at-first-job f n
 
-      pub second-stop : (found2 : Option ℕ) (e : Fault) → found2 ≡ job-number ks (part bytes (end + 1) after) → Err e ≡ named-as found2 l (b + (end + 1)) (part bytes (end + 1) after) → bound-of ks o l b (cut 32 bytes) ≡ Err e
+      pub second-stop : (found2 : Option ℕ) (e : Fault) → found2 ≡ job-number ks (part bytes (end + 1) after)
+          → Err e ≡ named-as found2 l (b + (end + 1)) (part bytes (end + 1) after) → bound-of ks o l b (cut 32 bytes) ≡ Err e
       second-stop found2 e g m =
           let (t, s) = one-of (pieces-from 32 bytes (after + 1)) (one-left after r) in
           ap (bound-of ks o l b) (words ∙ ap (λ z. take first bytes ∷ (part bytes (first + 1) end ∷ z)) (r .is ∙ ap (λ z. part bytes (end + 1) after ∷ z) s))
-          ∙ bound-second-stop ks o l b (take first bytes) (part bytes (first + 1) end) (part bytes (end + 1) after) t k kind e i first-is (judged _ (end + 1) _ found2 (Err e) at-second-job g m)
+          ∙ bound-second-stop ks o l b (take first bytes) (part bytes (first + 1) end) (part bytes (end + 1) after) t k kind e i first-is
+          (judged _ (end + 1) _ found2 (Err e) at-second-job g m)
 
-      module _ (j : ℕ) (found2 : Option ℕ) (g : found2 ≡ job-number ks (part bytes (end + 1) after)) (m : Ok j ≡ named-as found2 l (b + (end + 1)) (part bytes (end + 1) after)) (close : ℕ) (x : Piece 32 bytes (after + 1) close) where
+      module _ (j : ℕ) (found2 : Option ℕ) (g : found2 ≡ job-number ks (part bytes (end + 1) after))
+          (m : Ok j ≡ named-as found2 l (b + (end + 1)) (part bytes (end + 1) after)) (close : ℕ) (x : Piece 32 bytes (after + 1) close) where
         second-is : job-named ks l (b + length (take first bytes) + length (part bytes (first + 1) end) + 2) (part bytes (end + 1) after) ≡ Ok j
         second-is = judged _ (end + 1) _ found2 (Ok j) at-second-job g m
 
         all : cut 32 bytes ≡ take first bytes ∷ (part bytes (first + 1) end ∷ (part bytes (end + 1) after ∷ (part bytes (after + 1) close ∷ [])))
         all =
             let z = none-of (pieces-from 32 bytes (close + 1)) (omega (arith, one-left after r, ap length (x .is))) in
-            words ∙ ap (λ v. take first bytes ∷ (part bytes (first + 1) end ∷ v)) (r .is ∙ ap (λ v. part bytes (end + 1) after ∷ v) (x .is ∙ ap (λ v. part bytes (after + 1) close ∷ v) z))
+            words ∙ ap (λ v. take first bytes ∷ (part bytes (first + 1) end ∷ v))
+            (r .is ∙ ap (λ v. part bytes (end + 1) after ∷ v) (x .is ∙ ap (λ v. part bytes (after + 1) close ∷ v) z))
 
         at-minutes : b + length (take first bytes) + length (part bytes (first + 1) end) + length (part bytes (end + 1) after) + 3 ≡ b + (after + 1)
         at-minutes = omega (arith, at-second-job, part-long bytes (end + 1) after (r .from) (r .within), r .from)
@@ -106,7 +113,8 @@ module _ (bytes : List ℕ) (first end : ℕ) (p : Piece 32 bytes 0 first) (q : 
         pub minutes-stop : minutes-of (part bytes (after + 1) close) ≡ None → bound-of ks o l b (cut 32 bytes) ≡ fault NotANumber l (b + (after + 1))
         minutes-stop e =
             ap (bound-of ks o l b) all
-            ∙ (bound-minutes-stop ks o l b (take first bytes) (part bytes (first + 1) end) (part bytes (end + 1) after) (part bytes (after + 1) close) k kind i j first-is second-is e ∙ ap (fault NotANumber l) at-minutes)
+            ∙ (bound-minutes-stop ks o l b (take first bytes) (part bytes (first + 1) end) (part bytes (end + 1) after) (part bytes (after + 1) close) k
+            kind i j first-is second-is e ∙ ap (fault NotANumber l) at-minutes)
 
         pub record Said (z : ℤ) : Type 0 where
           pub line : Bound-line
@@ -115,5 +123,6 @@ module _ (bytes : List ℕ) (first end : ℕ) (p : Piece 32 bytes 0 first) (q : 
 
         pub said : (z : ℤ) → minutes-of (part bytes (after + 1) close) ≡ Some z → Said z
         said z e =
-            let y = bound-said ks o l b (take first bytes) (part bytes (first + 1) end) (part bytes (end + 1) after) (part bytes (after + 1) close) k kind i j z first-is second-is e in
+            let y = bound-said ks o l b (take first bytes) (part bytes (first + 1) end) (part bytes (end + 1) after) (part bytes (after + 1) close) k
+            kind i j z first-is second-is e in
             record { line = y .line; says = ap (bound-of ks o l b) all ∙ y .says; call = y .call }

@@ -29,11 +29,13 @@ use Rattle.reader.specs.Names.{no-place, Placed, known-places, known-by, Stand
 use Rattle.reader.specs.Entering.{Job-entered, Bound-entered}
 
 -- an accepted job stands behind the others
-taken-after : {A : Type 0} (m : Option Refusal) (a : A) (after before : Plain) → Accepts (unless m a after before .answer) → unless m a after before .after ≡ after
+taken-after : {A : Type 0} (m : Option Refusal) (a : A) (after before : Plain) → Accepts (unless m a after before .answer)
+    → unless m a after before .after ≡ after
 taken-after None a after before h = refl
 taken-after (Some r) a after before h = absurd h
 
-pub added : (k : Work) (o : Plain) (label : Label) → Accepts (add k o label .answer) → add k o label .after ≡ with-job o (record { label = label; check = numbered k (checks o) })
+pub added : (k : Work) (o : Plain) (label : Label) → Accepts (add k o label .answer) → add k o label .after ≡ with-job o
+    (record { label = label; check = numbered k (checks o) })
 added JobWork o label h = taken-after (job-refusal o label) _ _ o h
 added CheckWork o label h = taken-after (check-refusal o label) _ _ o h
 
@@ -46,7 +48,8 @@ accepted ks o l b ws j e =
     let (h, same) = booked-ok l b (call-job ks o x .answer) x j f in
     subst (λ v. Accepts (call-job ks o v .answer)) same h
 
-bound-accepted : (ks : List Known) (o : Plain) (l b : ℕ) (ws : List (List ℕ)) (j : Bound-line) → bound-of ks o l b ws ≡ Ok j → Accepts (call-bound ks o j .answer)
+bound-accepted : (ks : List Known) (o : Plain) (l b : ℕ) (ws : List (List ℕ)) (j : Bound-line) → bound-of ks o l b ws ≡ Ok j
+    → Accepts (call-bound ks o j .answer)
 bound-accepted ks o l b ws j e =
     let (x, q, f) = then-ok (bound-line ks l b ws) _ j e in
     let (h, same) = booked-ok l b (call-bound ks o x .answer) x j f in
@@ -65,7 +68,8 @@ module _ (text : List ℕ) (l b : ℕ) (bytes : List ℕ) (ns : List NamePlace) 
     new-job = record { label = label-in (known-by text ns o) (j .line .wants); check = numbered (j .line .work) (checks o) }
 
     pub jobs-after : o′ .jobs ≡ o .jobs ++ (record { label = label-in (known-by text ns o) (j .line .wants); check = numbered (j .line .work) (checks o) } ∷ [])
-    jobs-after = ap (λ v. v .jobs) (j .book ∙ added (j .line .work) o (label-in (known-by text ns o) (j .line .wants)) (accepted (known-by text ns o) o l b (cut 32 bytes) (j .line) (j .says)))
+    jobs-after = ap (λ v. v .jobs) (j .book ∙ added (j .line .work) o (label-in (known-by text ns o) (j .line .wants))
+        (accepted (known-by text ns o) o l b (cut 32 bytes) (j .line) (j .says)))
 
     pub one-more : length (o′ .jobs) ≡ length (o .jobs) + 1
     one-more = ap length jobs-after ∙ length-push (o .jobs) _
@@ -76,14 +80,20 @@ module _ (text : List ℕ) (l b : ℕ) (bytes : List ℕ) (ns : List NamePlace) 
     pub places-after : known-places ns′ o′ ≡ known-places ns o ++ (j .place ∷ [])
     places-after =
         let n : length (o′ .jobs) - 1 ≡ length (o .jobs) - 1 + 1 = omega (arith, one-more, s .some) in
-        ap (λ k. take k ns′) n ∙ (ap (take (length (o .jobs) - 1 + 1)) (j .noted) ∙ take-more-set ns (length (o .jobs) - 1) (j .place) (omega (arith, s .some, room)))
+        ap (λ k. take k ns′) n ∙ (ap (take (length (o .jobs) - 1 + 1)) (j .noted) ∙ take-more-set ns (length (o .jobs) - 1) (j .place)
+        (omega (arith, s .some, room)))
 
     pub stands-after : Stands text ns′ o′
-    stands-after = record { room = omega (arith, one-more, same-room, room); placed = subst (Placed text) (sym places-after) (placed-push text (known-places ns o) (j .place) (h .placed) (j .inside)) }
+    stands-after = record {
+      room = omega (arith, one-more, same-room, room);
+      placed = subst (Placed text) (sym places-after)
+          (placed-push text (known-places ns o) (j .place) (h .placed) (j .inside));
+    }
 
   module _ (j : Bound-entered text l b bytes ns o o′) (h : Stands text ns o) where
     pub jobs-stay : o′ .jobs ≡ o .jobs
-    jobs-stay = ap (λ v. v .jobs) (j .book ∙ bound-added o (bound-in (known-by text ns o) (j .line)) (bound-accepted (known-by text ns o) o l b (cut 32 bytes) (j .line) (j .says)))
+    jobs-stay = ap (λ v. v .jobs) (j .book ∙ bound-added o (bound-in (known-by text ns o) (j .line))
+        (bound-accepted (known-by text ns o) o l b (cut 32 bytes) (j .line) (j .says)))
 
     pub bound-stands : Stands text ns o′
     bound-stands =

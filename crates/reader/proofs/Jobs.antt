@@ -37,16 +37,19 @@ pub part-long : (bytes : List ℕ) (start end : ℕ) → start ≤ end → end �
 part-long bytes start end h k = length-take-le (end - start) (drop start bytes) (omega (arith, length-drop start bytes))
 
 -- a part of a line is a part of the text
-pub part-of-text : (text bytes : List ℕ) (b start end : ℕ) → Lies text bytes b → start ≤ end → end ≤ length bytes → take (end - start) (drop (b + start) text) ≡ part bytes start end
+pub part-of-text : (text bytes : List ℕ) (b start end : ℕ) → Lies text bytes b → start ≤ end → end ≤ length bytes
+    → take (end - start) (drop (b + start) text) ≡ part bytes start end
 part-of-text text bytes b start end lies h k =
     let m = length bytes in
     let line = drop b text in
     let split : start + (m - start) ≡ m = omega arith in
-    let a : drop start bytes ≡ take (m - start) (drop start line) = ap (drop start) (lies .there ∙ ap (λ n. take n line) (sym split)) ∙ drop-take start (m - start) line in
+    let a : drop start bytes ≡ take (m - start) (drop start line) = ap (drop start) (lies .there ∙ ap (λ n. take n line) (sym split)) ∙ drop-take start
+    (m - start) line in
     let d : drop start line ≡ drop (b + start) text = drop-drop start b text in
     sym (ap (take (end - start)) a ∙ (take-take (end - start) (m - start) (drop start line) (omega arith) ∙ ap (take (end - start)) d))
 
-module _ (ks : List Known) (o : Plain) (l b : ℕ) (bytes : List ℕ) (first end : ℕ) (k : Work) (p : Piece 32 bytes 0 first) (q : Piece 32 bytes (first + 1) end) (work : work-of (take first bytes) ≡ Some k) where
+module _ (ks : List Known) (o : Plain) (l b : ℕ) (bytes : List ℕ) (first end : ℕ) (k : Work) (p : Piece 32 bytes 0 first)
+    (q : Piece 32 bytes (first + 1) end) (work : work-of (take first bytes) ≡ Some k) where
   words : cut 32 bytes ≡ take first bytes ∷ (part bytes (first + 1) end ∷ pieces-from 32 bytes (end + 1))
   words = first-piece 32 bytes first p ∙ ap (λ t. take first bytes ∷ t) (q .is)
 
@@ -56,18 +59,26 @@ module _ (ks : List Known) (o : Plain) (l b : ℕ) (bytes : List ℕ) (first end
   at-label : b + length (take first bytes) + length (part bytes (first + 1) end) + 2 ≡ b + (end + 1)
   at-label = omega (arith, length-take-le first bytes (p .within), part-long bytes (first + 1) end (q .from) (q .within), q .from)
 
-  named : (found : Option ℕ) (r : Result (List ℕ) Fault) → found ≡ job-number ks (part bytes (first + 1) end) → new-as found l (b + (first + 1)) (part bytes (first + 1) end) ≡ r
+  named : (found : Option ℕ) (r : Result (List ℕ) Fault) → found ≡ job-number ks (part bytes (first + 1) end)
+      → new-as found l (b + (first + 1)) (part bytes (first + 1) end) ≡ r
       → new-name ks l (b + length (take first bytes) + 1) (part bytes (first + 1) end) ≡ r
-  named found r f n = ap (λ m. new-name ks l m (part bytes (first + 1) end)) at-name ∙ (ap (λ x. new-as x l (b + (first + 1)) (part bytes (first + 1) end)) (sym f) ∙ n)
+  named found r f n = ap (λ m. new-name ks l m (part bytes (first + 1) end)) at-name ∙
+      (ap (λ x. new-as x l (b + (first + 1)) (part bytes (first + 1) end)) (sym f) ∙ n)
 
-  pub name-stop : (found : Option ℕ) (e : Fault) → found ≡ job-number ks (part bytes (first + 1) end) → new-as found l (b + (first + 1)) (part bytes (first + 1) end) ≡ Err e → job-of ks o l b (cut 32 bytes) ≡ Err e
-  name-stop found e f n = ap (job-of ks o l b) words ∙ job-named-stop ks o l b (take first bytes) (part bytes (first + 1) end) (pieces-from 32 bytes (end + 1)) k work e (named found (Err e) f n)
+  pub name-stop : (found : Option ℕ) (e : Fault) → found ≡ job-number ks (part bytes (first + 1) end)
+      → new-as found l (b + (first + 1)) (part bytes (first + 1) end) ≡ Err e → job-of ks o l b (cut 32 bytes) ≡ Err e
+  name-stop found e f n = ap (job-of ks o l b) words ∙ job-named-stop ks o l b (take first bytes) (part bytes (first + 1) end)
+      (pieces-from 32 bytes (end + 1)) k work e (named found (Err e) f n)
 
-  labels : (r : Result Label Fault) → labelled empty-label ks l (b + (end + 1)) (pieces-from 32 bytes (end + 1)) ≡ r → labelled empty-label ks l (b + length (take first bytes) + length (part bytes (first + 1) end) + 2) (pieces-from 32 bytes (end + 1)) ≡ r
+  labels : (r : Result Label Fault) → labelled empty-label ks l (b + (end + 1)) (pieces-from 32 bytes (end + 1)) ≡ r
+      → labelled empty-label ks l (b + length (take first bytes) + length (part bytes (first + 1) end) + 2) (pieces-from 32 bytes (end + 1)) ≡ r
   labels r e = ap (λ m. labelled empty-label ks l m (pieces-from 32 bytes (end + 1))) at-label ∙ e
 
-  pub label-stop : (found : Option ℕ) (e : Fault) → found ≡ job-number ks (part bytes (first + 1) end) → new-as found l (b + (first + 1)) (part bytes (first + 1) end) ≡ Ok (part bytes (first + 1) end) → labelled empty-label ks l (b + (end + 1)) (pieces-from 32 bytes (end + 1)) ≡ Err e → job-of ks o l b (cut 32 bytes) ≡ Err e
-  label-stop found e f n x = ap (job-of ks o l b) words ∙ job-label-stop ks o l b (take first bytes) (part bytes (first + 1) end) (pieces-from 32 bytes (end + 1)) k work e (named found _ f n) (labels (Err e) x)
+  pub label-stop : (found : Option ℕ) (e : Fault) → found ≡ job-number ks (part bytes (first + 1) end)
+      → new-as found l (b + (first + 1)) (part bytes (first + 1) end) ≡ Ok (part bytes (first + 1) end)
+      → labelled empty-label ks l (b + (end + 1)) (pieces-from 32 bytes (end + 1)) ≡ Err e → job-of ks o l b (cut 32 bytes) ≡ Err e
+  label-stop found e f n x = ap (job-of ks o l b) words ∙ job-label-stop ks o l b (take first bytes) (part bytes (first + 1) end)
+      (pieces-from 32 bytes (end + 1)) k work e (named found _ f n) (labels (Err e) x)
 
   pub record Said (label : Label) : Type 0 where
     pub line : Job-line
@@ -75,9 +86,12 @@ module _ (ks : List Known) (o : Plain) (l b : ℕ) (bytes : List ℕ) (first end
     pub call : call-job ks o line ≡ add k o label
     pub name : line .name ≡ part bytes (first + 1) end
 
-  pub said : (found : Option ℕ) (label : Label) → found ≡ job-number ks (part bytes (first + 1) end) → new-as found l (b + (first + 1)) (part bytes (first + 1) end) ≡ Ok (part bytes (first + 1) end) → labelled empty-label ks l (b + (end + 1)) (pieces-from 32 bytes (end + 1)) ≡ Ok label → Said label
+  pub said : (found : Option ℕ) (label : Label) → found ≡ job-number ks (part bytes (first + 1) end)
+      → new-as found l (b + (first + 1)) (part bytes (first + 1) end) ≡ Ok (part bytes (first + 1) end)
+      → labelled empty-label ks l (b + (end + 1)) (pieces-from 32 bytes (end + 1)) ≡ Ok label → Said label
   said found label f n x =
-      let j = job-said ks o l b (take first bytes) (part bytes (first + 1) end) (pieces-from 32 bytes (end + 1)) k work label (named found _ f n) (labels (Ok label) x) in
+      let j = job-said ks o l b (take first bytes) (part bytes (first + 1) end) (pieces-from 32 bytes (end + 1)) k work label (named found _ f n)
+      (labels (Ok label) x) in
       record { line = j .line; says = ap (job-of ks o l b) words ∙ j .says; call = j .call; name = j .name }
 
   pub name-place : line-name b (cut 32 bytes) ≡ record { byte = b + (first + 1); length = end - (first + 1) } ∷ []
@@ -92,12 +106,14 @@ pub booked-ok : {B : Type 0} (l b n : ℕ) (r : Result ℕ Refusal) (x : B) → 
 booked-ok l b n (Ok m) x e = refl
 booked-ok l b n (Err r) x e = let z : _≡_ {A = ℕ} 0 1 = cc in absurd (omega arith)
 
-pub booked-err : {B : Type 0} (l b : ℕ) (reason : Reason) (r : Result ℕ Refusal) (x : B) → in-book r ≡ Err reason → booked l b r x ≡ Err (record { reason = reason; line = l; byte = b })
+pub booked-err : {B : Type 0} (l b : ℕ) (reason : Reason) (r : Result ℕ Refusal) (x : B) → in-book r ≡ Err reason → booked l b r x ≡ Err
+    (record { reason = reason; line = l; byte = b })
 booked-err l b reason (Ok m) x e = let z : _≡_ {A = ℕ} 0 1 = cc in absurd (omega arith)
 booked-err l b reason (Err r) x e = let s : Book r ≡ reason = cc in ap (λ v. Err (record { reason = v; line = l; byte = b })) s
 
 -- a call that is refused alters nothing
-unaltered : {A : Type 0} (m : Option Refusal) (a : A) (after before : Plain) (r : Refusal) → unless m a after before .answer ≡ Err r → unless m a after before .after ≡ before
+unaltered : {A : Type 0} (m : Option Refusal) (a : A) (after before : Plain) (r : Refusal) → unless m a after before .answer ≡ Err r
+    → unless m a after before .after ≡ before
 unaltered None a after before r e = let z : _≡_ {A = ℕ} 0 1 = cc in absurd (omega arith)
 unaltered (Some x) a after before r e = refl
 
@@ -115,5 +131,6 @@ bound-refused o x r e = unaltered (bound-refusal o x) _ _ o r e
 pub ok-booked : {B : Type 0} (l b n : ℕ) (r : Result ℕ Refusal) (x : B) → r ≡ Ok n → booked l b r x ≡ Ok x
 ok-booked l b n r x e = rw e refl
 
-pub err-booked : {B : Type 0} (l b : ℕ) (y : Refusal) (r : Result ℕ Refusal) (x : B) → r ≡ Err y → booked l b r x ≡ Err (record { reason = Book y; line = l; byte = b })
+pub err-booked : {B : Type 0} (l b : ℕ) (y : Refusal) (r : Result ℕ Refusal) (x : B) → r ≡ Err y → booked l b r x ≡ Err
+    (record { reason = Book y; line = l; byte = b })
 err-booked l b y r x e = rw e refl

@@ -26,17 +26,20 @@ decided-alike false true f g = f .1 (g .0 refl)
 decided-alike false false f g = refl
 
 -- a name at the next place, or not
-pub place-found : (n i : ℕ) (text : List ℕ) (ns : List NamePlace) (w : List ℕ) → i < length ns → same (slice text (getD ns i no-place)) w ≡ true → place-from n text (drop i ns) w ≡ Some n
+pub place-found : (n i : ℕ) (text : List ℕ) (ns : List NamePlace) (w : List ℕ) → i < length ns → same (slice text (getD ns i no-place)) w ≡ true
+    → place-from n text (drop i ns) w ≡ Some n
 place-found n i text ns w h e = at-drop-more (λ t. place-from n text t w) ns i no-place h ∙ rw e refl
 
-pub place-more : (n i : ℕ) (text : List ℕ) (ns : List NamePlace) (w : List ℕ) → i < length ns → same (slice text (getD ns i no-place)) w ≡ false → place-from n text (drop i ns) w ≡ place-from (n + 1) text (drop (i + 1) ns) w
+pub place-more : (n i : ℕ) (text : List ℕ) (ns : List NamePlace) (w : List ℕ) → i < length ns → same (slice text (getD ns i no-place)) w ≡ false
+    → place-from n text (drop i ns) w ≡ place-from (n + 1) text (drop (i + 1) ns) w
 place-more n i text ns w h e = at-drop-more (λ t. place-from n text t w) ns i no-place h ∙ rw e refl
 
 pub not-start : (text : List ℕ) (ns : List NamePlace) (w : List ℕ) → same (codes "start") w ≡ false → number-among text ns w ≡ place-from 1 text ns w
 not-start text ns w e = rw e refl
 
 -- what job has a name, by its place or by the jobs known
-named-from : (n : ℕ) (text : List ℕ) (ns : List NamePlace) (js : List Job) (w : List ℕ) → length ns ≤ length js → job-from n (named text ns js) w ≡ place-from n text ns w
+named-from : (n : ℕ) (text : List ℕ) (ns : List NamePlace) (js : List Job) (w : List ℕ) → length ns ≤ length js
+    → job-from n (named text ns js) w ≡ place-from n text ns w
 named-from n text [] js w h = refl
 named-from n text (p ∷ ps) [] w h = absurd (omega arith)
 named-from n text (p ∷ ps) (j ∷ js) w h = ap (cond (same (slice text p) w) (Some n)) (named-from (n + 1) text ps js w (omega arith))
@@ -50,11 +53,13 @@ place-bound : (n : ℕ) (text : List ℕ) (ns : List NamePlace) (w : List ℕ) (
 place-bound n text [] w j e = no-value j e
 place-bound n text (p ∷ ps) w j e = go (same (slice text p) w) (λ q. place-bound (n + 1) text ps w j q) e
   where
-    go : (t : Bool) → (place-from (n + 1) text ps w ≡ Some j → j < n + 1 + length ps) → cond t (Some n) (place-from (n + 1) text ps w) ≡ Some j → j < n + length (p ∷ ps)
+    go : (t : Bool) → (place-from (n + 1) text ps w ≡ Some j → j < n + 1 + length ps) → cond t (Some n) (place-from (n + 1) text ps w) ≡ Some j
+        → j < n + length (p ∷ ps)
     go true f q = let s = same-some n j q in omega arith
     go false f q = let l = f q in omega arith
 
-pub number-bound : (text : List ℕ) (ns : List NamePlace) (b : Plain) (w : List ℕ) (j : ℕ) → Named text ns b → number-among text ns w ≡ Some j → j < length (b .jobs)
+pub number-bound : (text : List ℕ) (ns : List NamePlace) (b : Plain) (w : List ℕ) (j : ℕ) → Named text ns b → number-among text ns w ≡ Some j
+    → j < length (b .jobs)
 number-bound text ns b w j h e = go (same (codes "start") w) e
   where
     go : (t : Bool) → cond t (Some 0) (place-from 1 text ns w) ≡ Some j → j < length (b .jobs)
@@ -62,17 +67,20 @@ number-bound text ns b w j h e = go (same (codes "start") w) e
     go false q = omega (arith, place-bound 1 text ns w j q, h .counted)
 
 -- the check number of a job known is that of the book's job
-named-check : (text : List ℕ) (ns : List NamePlace) (js : List Job) (i : ℕ) → length ns ≡ length js → getD (named text ns js) i start-known .check ≡ getD js i no-job .check
+named-check : (text : List ℕ) (ns : List NamePlace) (js : List Job) (i : ℕ) → length ns ≡ length js
+    → getD (named text ns js) i start-known .check ≡ getD js i no-job .check
 named-check text [] [] i h = refl
 named-check text [] (j ∷ js) i h = absurd (omega arith)
 named-check text (p ∷ ps) [] i h = absurd (omega arith)
 named-check text (p ∷ ps) (j ∷ js) zero h = refl
 named-check text (p ∷ ps) (j ∷ js) (suc i) h = named-check text ps js i (omega arith)
 
-pub known-check : (text : List ℕ) (ns : List NamePlace) (b : Plain) (j : ℕ) → Named text ns b → Sound b → getD (known-in text ns b) j start-known .check ≡ job b j .check
+pub known-check : (text : List ℕ) (ns : List NamePlace) (b : Plain) (j : ℕ) → Named text ns b → Sound b
+    → getD (known-in text ns b) j start-known .check ≡ job b j .check
 known-check text ns b zero h s = sym (s .start-asks-nothing)
 known-check text ns b (suc i) h s =
-    named-check text ns (drop 1 (b .jobs)) i (omega (arith, h .counted, length-drop 1 (b .jobs))) ∙ ap (λ v. v .check) (getD-drop 1 (b .jobs) i no-job ∙ ap (λ k. getD (b .jobs) k no-job) (omega arith))
+    named-check text ns (drop 1 (b .jobs)) i (omega (arith, h .counted, length-drop 1 (b .jobs))) ∙ ap (λ v. v .check)
+    (getD-drop 1 (b .jobs) i no-job ∙ ap (λ k. getD (b .jobs) k no-job) (omega arith))
 
 pub check-small : (b : Plain) (j c : ℕ) → Sound b → j < length (b .jobs) → job b j .check ≡ Some c → c < 8
 check-small b j c s h e = omega (arith, s .each-job j h .counted c e .0, s .few-checks)

@@ -34,7 +34,8 @@ below-more v i d h k = omega (arith, pow-add 10 i 1)
 pub below-five : (v i : ℕ) → v < 10 ^ i → i ≤ 5 → v < 100000
 below-five v i h k = let p : 10 ^ i ≤ 10 ^ 5 = pow-le-pow-right (omega arith) k in omega arith
 
-pub natural-is : (k v : ℕ) (w : List ℕ) → digits w ≡ true → 1 ≤ length w → length w ≤ k → (length w ≤ 1) ⊎ (getD w 0 0 ≡ 48 → ⊥) → number-after 0 w ≡ v → Some v ≡ natural-of k w
+pub natural-is : (k v : ℕ) (w : List ℕ) → digits w ≡ true → 1 ≤ length w → length w ≤ k → (length w ≤ 1) ⊎ (getD w 0 0 ≡ 48 → ⊥)
+    → number-after 0 w ≡ v → Some v ≡ natural-of k w
 natural-is k v w d lo hi way e =
     let t : natural-form k w ≡ true = grind (arith, tells) in
     rw (t) (ap Some (sym e))
@@ -59,7 +60,8 @@ minus-way : (t : Bool) (v n : ℕ) → Some n ≡ cond t (Some v) None → (n �
 minus-way true v n e h = let s : n ≡ v = same-some n v e in rw (ne-eqb v 0 (λ z. h (s ∙ z))) (ap (λ k. Some (negℤ (pos k))) s)
 minus-way false v n e h = no-value n (sym e)
 
-pub minus-minutes : (w : List ℕ) (n : ℕ) → 1 ≤ length w → getD w 0 0 ≡ 45 → Some n ≡ natural-of 5 (take (length w - 1) (drop 1 w)) → (n ≡ 0 → ⊥) → Some (negℤ (pos n)) ≡ minutes-of w
+pub minus-minutes : (w : List ℕ) (n : ℕ) → 1 ≤ length w → getD w 0 0 ≡ 45 → Some n ≡ natural-of 5 (take (length w - 1) (drop 1 w)) → (n ≡ 0 → ⊥)
+    → Some (negℤ (pos n)) ≡ minutes-of w
 minus-minutes [] n h d e z = absurd (omega arith)
 minus-minutes (c ∷ cs) n h d e z =
     let e2 : Some n ≡ natural-of 5 cs = e ∙ ap (natural-of 5) (take-rest (c ∷ cs) 1) in

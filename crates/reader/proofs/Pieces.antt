@@ -20,7 +20,8 @@ free-append c [] b f g = g
 free-append c (x ∷ a) b f g = (f .0, free-append c a b (f .1) g)
 
 -- one byte more that is not c
-pub free-more : (c : ℕ) (text : List ℕ) (start end : ℕ) → start ≤ end → end < length text → (getD text end 0 ≡ c → ⊥) → Free c (take (end - start) (drop start text)) → Free c (take (end + 1 - start) (drop start text))
+pub free-more : (c : ℕ) (text : List ℕ) (start end : ℕ) → start ≤ end → end < length text → (getD text end 0 ≡ c → ⊥)
+    → Free c (take (end - start) (drop start text)) → Free c (take (end + 1 - start) (drop start text))
 free-more c text start end h k ne f =
     let d = length-drop start text in
     let p : start + (end - start) ≡ end = omega arith in
@@ -31,18 +32,25 @@ free-more c text start end h k ne f =
 
 pub piece : (c : ℕ) (text : List ℕ) (start end : ℕ) → start ≤ end → end ≤ length text → Free c (take (end - start) (drop start text))
     → (end < length text → getD text end 0 ≡ c) → Piece c text start end
-piece c text start end h k f stop = record { from = h; within = k; is = rw (le-leb start (length text) (omega arith)) (⊎-elim more last (cases-lt end (length text))) }
+piece c text start end h k f stop = record {
+  from = h;
+  within = k;
+  is = rw (le-leb start (length text) (omega arith))
+      (⊎-elim more last (cases-lt end (length text)));
+}
   where
     p : start + (end - start) ≡ end
     p = omega arith
 
     s : drop start text ≡ take (end - start) (drop start text) ++ drop end text
-    s = sym (take-append-drop (end - start) (drop start text)) ∙ ap (λ t. take (end - start) (drop start text) ++ t) (drop-drop (end - start) start text ∙ ap (λ k. drop k text) p)
+    s = sym (take-append-drop (end - start) (drop start text)) ∙ ap (λ t. take (end - start) (drop start text) ++ t)
+        (drop-drop (end - start) start text ∙ ap (λ k. drop k text) p)
 
     more : end < length text → cut c (drop start text) ≡ take (end - start) (drop start text) ∷ pieces-from c text (end + 1)
     more l =
         let e = drop-more text end 0 l in
-        let i : drop start text ≡ take (end - start) (drop start text) ++ (c ∷ drop (end + 1) text) = s ∙ ap (λ t. take (end - start) (drop start text) ++ t) (e ∙ ap (λ x. x ∷ drop (end + 1) text) (stop l)) in
+        let i : drop start text ≡ take (end - start) (drop start text) ++ (c ∷ drop (end + 1) text) = s ∙ ap
+        (λ t. take (end - start) (drop start text) ++ t) (e ∙ ap (λ x. x ∷ drop (end + 1) text) (stop l)) in
         rw (le-leb (end + 1) (length text) (omega arith)) (ap (cut c) i ∙ cut-piece c _ (drop (end + 1) text) f)
 
     last : length text ≤ end → cut c (drop start text) ≡ take (end - start) (drop start text) ∷ pieces-from c text (end + 1)
@@ -84,7 +92,8 @@ two-pieces text first end p q n =
     a ∙ ap (λ t. take first text ∷ (take (end - (first + 1)) (drop (first + 1) text) ∷ t)) z
 
 -- the last piece has no line feed
-pub last-piece : (c : ℕ) (text : List ℕ) (start end : ℕ) → Piece c text start end → length text ≤ end → cut c (drop start text) ≡ take (end - start) (drop start text) ∷ []
+pub last-piece : (c : ℕ) (text : List ℕ) (start end : ℕ) → Piece c text start end → length text ≤ end
+    → cut c (drop start text) ≡ take (end - start) (drop start text) ∷ []
 last-piece c text start end p h =
     let a : pieces-from c text start ≡ cut c (drop start text) = rw (le-leb start (length text) (omega (arith, p .from, p .within))) refl in
     let b : pieces-from c text (end + 1) ≡ [] = rw (lt-leb (end + 1) (length text) (omega arith)) refl in

@@ -23,17 +23,20 @@ use Rattle.reader.specs.Says.{In-list, want-in, labelled}
 
 module _ (label : Label) (ks : List Known) (l b : ℕ) where
   judged : (w : List ℕ) (s : Sign) (r : Result ℕ Fault) → check-named ks l b w ≡ r
-      → then {A = Want} (then r (λ k. Ok (record { sign = s; name = w }))) (λ a. Ok (wanting label (a .sign) (or-zero (check-number ks (a .name))))) ≡ then r (λ c. Ok (wanting label s c))
+      → then {A = Want} (then r (λ k. Ok (record { sign = s; name = w }))) (λ a. Ok (wanting label (a .sign) (or-zero (check-number ks (a .name))))) ≡
+      then r (λ c. Ok (wanting label s c))
   judged w s (Ok k) e = ap (λ o. Ok (wanting label s (or-zero o))) (check-named-sound ks l b w k e .1)
   judged w s (Err x) e = refl
 
   -- what a signed word gives, once its check is looked up
   pub want-signed : (w : List ℕ) (s : Sign) → 1 ≤ length w → sign-of (getD w 0 0) ≡ Some s
-      → want-in label ks l b w ≡ then (named-as (check-number ks (take (length w - 1) (drop 1 w))) l b (take (length w - 1) (drop 1 w))) (λ c. Ok (wanting label s c))
+      → want-in label ks l b w ≡ then (named-as (check-number ks (take (length w - 1) (drop 1 w))) l b (take (length w - 1) (drop 1 w)))
+      (λ c. Ok (wanting label s c))
   want-signed [] s h e = absurd (omega arith)
   want-signed (c ∷ cs) s h e =
       let n : take (length (c ∷ cs) - 1) (drop 1 (c ∷ cs)) ≡ cs = take-rest (c ∷ cs) 1 in
-      let signed : want-of ks l b (c ∷ cs) ≡ then (check-named ks l b cs) (λ k. Ok (record { sign = s; name = cs })) = ap (λ o. then (given o (fault-at BadName l b)) (λ t. then (check-named ks l b cs) (λ k. Ok (record { sign = t; name = cs })))) e in
+      let signed : want-of ks l b (c ∷ cs) ≡ then (check-named ks l b cs) (λ k. Ok (record { sign = s; name = cs })) = ap
+      (λ o. then (given o (fault-at BadName l b)) (λ t. then (check-named ks l b cs) (λ k. Ok (record { sign = t; name = cs })))) e in
       ap (λ r. then r (λ a. Ok (wanting label (a .sign) (or-zero (check-number ks (a .name)))))) signed
       ∙ (judged cs s (check-named ks l b cs) refl ∙ ap (λ v. then (named-as (check-number ks v) l b v) (λ c. Ok (wanting label s c))) (sym n))
 
@@ -46,25 +49,31 @@ module _ (label : Label) (ks : List Known) (l b : ℕ) where
   want-empty (c ∷ cs) h = absurd (omega arith)
 
 -- one more label word
-pub labelled-more : (label : Label) (ks : List Known) (l b : ℕ) (w : List ℕ) (ws : List (List ℕ)) (after : Label) → want-in label ks l b w ≡ Ok after → labelled label ks l b (w ∷ ws) ≡ labelled after ks l (b + length w + 1) ws
+pub labelled-more : (label : Label) (ks : List Known) (l b : ℕ) (w : List ℕ) (ws : List (List ℕ)) (after : Label) → want-in label ks l b w ≡ Ok after
+    → labelled label ks l b (w ∷ ws) ≡ labelled after ks l (b + length w + 1) ws
 labelled-more label ks l b w ws after e = go (want-of ks l b w) e
   where
-    inner : (a : Want) (r : Result (List Want) Fault) → then {A = List Want} (then r (λ xs. Ok (a ∷ xs))) (λ xs. Ok (label-from label ks xs)) ≡ then r (λ xs. Ok (label-from (wanting label (a .sign) (or-zero (check-number ks (a .name)))) ks xs))
+    inner : (a : Want) (r : Result (List Want) Fault) → then {A = List Want} (then r (λ xs. Ok (a ∷ xs))) (λ xs. Ok (label-from label ks xs)) ≡ then r
+        (λ xs. Ok (label-from (wanting label (a .sign) (or-zero (check-number ks (a .name)))) ks xs))
     inner a (Ok xs) = refl
     inner a (Err x) = refl
 
     go : (r : Result Want Fault) → then r (λ a. Ok (wanting label (a .sign) (or-zero (check-number ks (a .name))))) ≡ Ok after
-        → then (then r (λ a. then (wants-of ks l (b + length w + 1) ws) (λ xs. Ok (a ∷ xs)))) (λ xs. Ok (label-from label ks xs)) ≡ labelled after ks l (b + length w + 1) ws
+        → then (then r (λ a. then (wants-of ks l (b + length w + 1) ws) (λ xs. Ok (a ∷ xs)))) (λ xs. Ok (label-from label ks xs)) ≡ labelled after ks l
+        (b + length w + 1) ws
     go (Ok a) q = inner a (wants-of ks l (b + length w + 1) ws) ∙ ap (λ t. labelled t ks l (b + length w + 1) ws) (same-label q)
       where
-        same-label : _≡_ {A = Result Label Fault} (Ok (wanting label (a .sign) (or-zero (check-number ks (a .name))))) (Ok after) → wanting label (a .sign) (or-zero (check-number ks (a .name))) ≡ after
+        same-label : _≡_ {A = Result Label Fault} (Ok (wanting label (a .sign) (or-zero (check-number ks (a .name))))) (Ok after) → wanting label
+            (a .sign) (or-zero (check-number ks (a .name))) ≡ after
         same-label z = cc
     go (Err x) q = no-fault x after q
 
-pub labelled-stop : (label : Label) (ks : List Known) (l b : ℕ) (w : List ℕ) (ws : List (List ℕ)) (e : Fault) → want-in label ks l b w ≡ Err e → labelled label ks l b (w ∷ ws) ≡ Err e
+pub labelled-stop : (label : Label) (ks : List Known) (l b : ℕ) (w : List ℕ) (ws : List (List ℕ)) (e : Fault) → want-in label ks l b w ≡ Err e
+    → labelled label ks l b (w ∷ ws) ≡ Err e
 labelled-stop label ks l b w ws e q = go (want-of ks l b w) q
   where
-    go : (r : Result Want Fault) → then r (λ a. Ok (wanting label (a .sign) (or-zero (check-number ks (a .name))))) ≡ Err e → then {A = List Want} (then r (λ a. then (wants-of ks l (b + length w + 1) ws) (λ xs. Ok (a ∷ xs)))) (λ xs. Ok (label-from label ks xs)) ≡ Err e
+    go : (r : Result Want Fault) → then r (λ a. Ok (wanting label (a .sign) (or-zero (check-number ks (a .name))))) ≡ Err e → then {A = List Want}
+        (then r (λ a. then (wants-of ks l (b + length w + 1) ws) (λ xs. Ok (a ∷ xs)))) (λ xs. Ok (label-from label ks xs)) ≡ Err e
     go (Ok a) z = no-ok _ e z
     go (Err x) z = ap Err (same-err x e z)
 

@@ -58,8 +58,10 @@ pub(crate) fn job(
     requires stands { ⌜ Stands (now text) (now names) (held (now book)) ⌝ }
     requires room { ⌜ length (held (now book) .jobs) ≤ length (now names) ⌝ }
     ensures cases { λ r. ⌜ Cases r
-        (λ _. Job-entered (now (text .entry)) (line .entry .number) (line .entry .byte) (now (line .entry .bytes)) (now (names .entry)) (held (now (book .entry))) (now (names .exit)) (held (now (book .exit))))
-        (λ e. Job-refused (now (text .entry)) (line .entry .number) (line .entry .byte) (now (line .entry .bytes)) (now (names .entry)) (held (now (book .entry))) e (now (names .exit)) (held (now (book .exit)))) ⌝ }
+        (λ _. Job-entered (now (text .entry)) (line .entry .number) (line .entry .byte) (now (line .entry .bytes))
+        (now (names .entry)) (held (now (book .entry))) (now (names .exit)) (held (now (book .exit))))
+        (λ e. Job-refused (now (text .entry)) (line .entry .number) (line .entry .byte) (now (line .entry .bytes))
+        (now (names .entry)) (held (now (book .entry))) e (now (names .exit)) (held (now (book .exit)))) ⌝ }
 {
     let bytes = line.bytes;
     if word_count(bytes) < 2 {
@@ -100,8 +102,10 @@ pub(crate) fn bound(
     requires kind { ⌜ kind-of (take first (now (line .bytes))) ≡ Some kind ⌝ }
     requires stands { ⌜ Stands (now text) (now names) (held (now book)) ⌝ }
     ensures cases { λ r. ⌜ Cases r
-        (λ _. Bound-entered (now (text .entry)) (line .entry .number) (line .entry .byte) (now (line .entry .bytes)) (now (names .entry)) (held (now (book .entry))) (held (now (book .exit))))
-        (λ e. Bound-refused (now (text .entry)) (line .entry .number) (line .entry .byte) (now (line .entry .bytes)) (now (names .entry)) (held (now (book .entry))) e (held (now (book .exit)))) ⌝ }
+        (λ _. Bound-entered (now (text .entry)) (line .entry .number) (line .entry .byte) (now (line .entry .bytes))
+        (now (names .entry)) (held (now (book .entry))) (held (now (book .exit))))
+        (λ e. Bound-refused (now (text .entry)) (line .entry .number) (line .entry .byte) (now (line .entry .bytes))
+        (now (names .entry)) (held (now (book .entry))) e (held (now (book .exit)))) ⌝ }
 {
     let bytes = line.bytes;
     if word_count(bytes) != 4 {

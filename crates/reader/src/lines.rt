@@ -184,7 +184,9 @@ pub(crate) fn label(
     requires stands { ⌜ Stands (now text) (now names) (held (now book)) ⌝ }
     requires begun { ⌜ start ≤ length (now (line .bytes)) + 1 ⌝ }
     requires inside { ⌜ line .byte + length (now (line .bytes)) ≤ 8192 ⌝ }
-    ensures { λ r. ⌜ r ≡ labelled empty-label (known-by (now (text .entry)) (now (names .entry)) (held (now (book .entry)))) (line .entry .number) (line .entry .byte + start) (pieces-from 32 (now (line .entry .bytes)) start) ⌝ }
+    ensures { λ r. ⌜ r ≡ labelled empty-label
+        (known-by (now (text .entry)) (now (names .entry)) (held (now (book .entry))))
+        (line .entry .number) (line .entry .byte + start) (pieces-from 32 (now (line .entry .bytes)) start) ⌝ }
 {
     let bytes = line.bytes;
     let mut label = Label { yes: 0, no: 0 };

@@ -28,13 +28,17 @@ returns-in-Break-first-job c =
     let k = c .args .kind in
     let p = c .pre .first in
     let q = c .piece-end-end .ensures in
-    let stop = first-stop bytes first end p q four ks o l b k (c .pre .kind) (c .find-job .result) (c .in-Break-first-job .field-0 .0) (c .find-job .ensures .value) (c .in-Break-first-job .ensures tt) in
+    let stop = first-stop bytes first end p q four ks o l b k (c .pre .kind) (c .find-job .result) (c .in-Break-first-job .field-0 .0)
+    (c .find-job .ensures .value) (c .in-Break-first-job .ensures tt) in
     let r = err-from-errBy (c .from-residual .result) (c .from-residual .ensures .1) in
     record { cases = rw (r .1, r .2) (record { says = stop; book = refl }) }
 
 pub piece-end-after-requires : need.piece-end-after-requires
 piece-end-after-requires c κs =
-    record { begun = third-there (c .args .line .bytes .now) (c .args .first) (c .piece-end-end .result) (c .pre .first) (c .piece-end-end .ensures) (sym (c .word-count .ensures) ∙ c .if-word-count-ne4 .left) }
+    record {
+      begun = third-there (c .args .line .bytes .now) (c .args .first) (c .piece-end-end .result) (c .pre .first) (c .piece-end-end .ensures)
+          (sym (c .word-count .ensures) ∙ c .if-word-count-ne4 .left);
+    }
 
 pub returns-in-Break-second-job : need.returns-in-Break-second-job
 returns-in-Break-second-job c =
@@ -51,13 +55,18 @@ returns-in-Break-second-job c =
     let k = c .args .kind in
     let p = c .pre .first in
     let q = c .piece-end-end .ensures in
-    let stop = second-stop bytes first end p q four ks o l b k (c .pre .kind) (c .in-Continue-first-job .first-job) (c .find-job .result) (c .find-job .ensures .value) (c .in-Continue-first-job .ensures tt) (c .piece-end-after .result) (c .piece-end-after .ensures) (c .find-job-2 .result) (c .in-Break-second-job .field-0 .0) (c .find-job-2 .ensures .value) (c .in-Break-second-job .ensures tt) in
+    let stop = second-stop bytes first end p q four ks o l b k (c .pre .kind) (c .in-Continue-first-job .first-job) (c .find-job .result)
+    (c .find-job .ensures .value) (c .in-Continue-first-job .ensures tt) (c .piece-end-after .result) (c .piece-end-after .ensures)
+    (c .find-job-2 .result) (c .in-Break-second-job .field-0 .0) (c .find-job-2 .ensures .value) (c .in-Break-second-job .ensures tt) in
     let r = err-from-errBy (c .from-residual-in-Break-second-job .result) (c .from-residual-in-Break-second-job .ensures .1) in
     record { cases = rw (r .1, r .2) (record { says = stop; book = refl }) }
 
 pub piece-end-close-requires : need.piece-end-close-requires
 piece-end-close-requires c κs =
-    record { begun = fourth-there (c .args .line .bytes .now) (c .args .first) (c .piece-end-end .result) (c .pre .first) (c .piece-end-end .ensures) (sym (c .word-count .ensures) ∙ c .if-word-count-ne4 .left) (c .piece-end-after .result) (c .piece-end-after .ensures) }
+    record {
+      begun = fourth-there (c .args .line .bytes .now) (c .args .first) (c .piece-end-end .result) (c .pre .first) (c .piece-end-end .ensures)
+          (sym (c .word-count .ensures) ∙ c .if-word-count-ne4 .left) (c .piece-end-after .result) (c .piece-end-after .ensures);
+    }
 
 pub returns-in-None : need.returns-in-None
 returns-in-None c =
@@ -74,7 +83,10 @@ returns-in-None c =
     let k = c .args .kind in
     let p = c .pre .first in
     let q = c .piece-end-end .ensures in
-    let stop = minutes-stop bytes first end p q four ks o l b k (c .pre .kind) (c .in-Continue-first-job .first-job) (c .find-job .result) (c .find-job .ensures .value) (c .in-Continue-first-job .ensures tt) (c .piece-end-after .result) (c .piece-end-after .ensures) (c .in-Continue-second-job .second-job) (c .find-job-2 .result) (c .find-job-2 .ensures .value) (c .in-Continue-second-job .ensures tt) (c .piece-end-close .result) (c .piece-end-close .ensures) (sym (c .in-None .ensures tt)) in
+    let stop = minutes-stop bytes first end p q four ks o l b k (c .pre .kind) (c .in-Continue-first-job .first-job) (c .find-job .result)
+    (c .find-job .ensures .value) (c .in-Continue-first-job .ensures tt) (c .piece-end-after .result) (c .piece-end-after .ensures)
+    (c .in-Continue-second-job .second-job) (c .find-job-2 .result) (c .find-job-2 .ensures .value) (c .in-Continue-second-job .ensures tt)
+    (c .piece-end-close .result) (c .piece-end-close .ensures) (sym (c .in-None .ensures tt)) in
     record { cases = record { says = stop ∙ ap Err (sym (c .fault-in-None .ensures)); book = refl } }
 
 pub returns-in-Ok : need.returns-in-Ok
@@ -92,7 +104,10 @@ returns-in-Ok c =
     let k = c .args .kind in
     let p = c .pre .first in
     let q = c .piece-end-end .ensures in
-    let line = said bytes first end p q four ks o l b k (c .pre .kind) (c .in-Continue-first-job .first-job) (c .find-job .result) (c .find-job .ensures .value) (c .in-Continue-first-job .ensures tt) (c .piece-end-after .result) (c .piece-end-after .ensures) (c .in-Continue-second-job .second-job) (c .find-job-2 .result) (c .find-job-2 .ensures .value) (c .in-Continue-second-job .ensures tt) (c .piece-end-close .result) (c .piece-end-close .ensures) (c .in-Some .z) (sym (c .in-Some .ensures tt)) in
+    let line = said bytes first end p q four ks o l b k (c .pre .kind) (c .in-Continue-first-job .first-job) (c .find-job .result)
+    (c .find-job .ensures .value) (c .in-Continue-first-job .ensures tt) (c .piece-end-after .result) (c .piece-end-after .ensures)
+    (c .in-Continue-second-job .second-job) (c .find-job-2 .result) (c .find-job-2 .ensures .value) (c .in-Continue-second-job .ensures tt)
+    (c .piece-end-close .result) (c .piece-end-close .ensures) (c .in-Some .z) (sym (c .in-Some .ensures tt)) in
     let z = c .in-Some .z in
     let f : SFits w32 z = search needs in
     let fit : toZ w32 (ofZ w32 z) ≡ z = toZ-ofZ w32 z f in
@@ -100,7 +115,14 @@ returns-in-Ok c =
     let j = c .in-Continue-second-job .second-job in
     let answer = ap (λ m. add-bound o (record { kind = k; first = i; second = j; minutes = m }) .answer) (sym fit) ∙ sym (c .in-Ok .ensures tt .answer) in
     let after = c .in-Ok .ensures tt .after ∙ ap (λ m. add-bound o (record { kind = k; first = i; second = j; minutes = m }) .after) fit in
-    record { cases = record { line = line .line; says = line .says ∙ ok-booked l b (c .in-Ok .field-0) _ (line .line) answer; book = after ∙ ap (λ r. r .after) (sym (line .call)) } }
+    record {
+      cases = record {
+        line = line .line;
+        says = line .says ∙ ok-booked l b (c .in-Ok .field-0) _ (line .line) answer;
+        book = after ∙ ap
+            (λ r. r .after) (sym (line .call));
+      };
+    }
 
 pub returns-in-Err : need.returns-in-Err
 returns-in-Err c =
@@ -117,7 +139,10 @@ returns-in-Err c =
     let k = c .args .kind in
     let p = c .pre .first in
     let q = c .piece-end-end .ensures in
-    let line = said bytes first end p q four ks o l b k (c .pre .kind) (c .in-Continue-first-job .first-job) (c .find-job .result) (c .find-job .ensures .value) (c .in-Continue-first-job .ensures tt) (c .piece-end-after .result) (c .piece-end-after .ensures) (c .in-Continue-second-job .second-job) (c .find-job-2 .result) (c .find-job-2 .ensures .value) (c .in-Continue-second-job .ensures tt) (c .piece-end-close .result) (c .piece-end-close .ensures) (c .in-Some .z) (sym (c .in-Some .ensures tt)) in
+    let line = said bytes first end p q four ks o l b k (c .pre .kind) (c .in-Continue-first-job .first-job) (c .find-job .result)
+    (c .find-job .ensures .value) (c .in-Continue-first-job .ensures tt) (c .piece-end-after .result) (c .piece-end-after .ensures)
+    (c .in-Continue-second-job .second-job) (c .find-job-2 .result) (c .find-job-2 .ensures .value) (c .in-Continue-second-job .ensures tt)
+    (c .piece-end-close .result) (c .piece-end-close .ensures) (c .in-Some .z) (sym (c .in-Some .ensures tt)) in
     let z = c .in-Some .z in
     let f : SFits w32 z = search needs in
     let fit : toZ w32 (ofZ w32 z) ≡ z = toZ-ofZ w32 z f in
@@ -125,4 +150,10 @@ returns-in-Err c =
     let j = c .in-Continue-second-job .second-job in
     let answer = ap (λ m. add-bound o (record { kind = k; first = i; second = j; minutes = m }) .answer) (sym fit) ∙ sym (c .in-Err .ensures tt .answer) in
     let after = c .in-Err .ensures tt .after ∙ ap (λ m. add-bound o (record { kind = k; first = i; second = j; minutes = m }) .after) fit in
-    record { cases = record { says = line .says ∙ err-booked l b (c .in-Err .refusal) _ (line .line) answer; book = after ∙ bound-refused o (record { kind = k; first = i; second = j; minutes = z }) (c .in-Err .refusal) answer } }
+    record {
+      cases = record {
+        says = line .says ∙ err-booked l b (c .in-Err .refusal) _ (line .line) answer;
+        book = after ∙ bound-refused o
+            (record { kind = k; first = i; second = j; minutes = z }) (c .in-Err .refusal) answer;
+      };
+    }

@@ -25,7 +25,8 @@ returns-in-Break-new-name c =
     let end = c .piece-end-end .result in
     let e = c .in-Break-new-name .field-0 .0 in
     let found = c .find-job-found .result in
-    let stop = name-stop ks o l b bytes first end (c .args .work) (c .pre .first) (c .piece-end-end .ensures) (c .pre .work) found e (c .find-job-found .ensures .value) (c .in-Break-new-name .ensures tt) in
+    let stop = name-stop ks o l b bytes first end (c .args .work) (c .pre .first) (c .piece-end-end .ensures) (c .pre .work) found e
+    (c .find-job-found .ensures .value) (c .in-Break-new-name .ensures tt) in
     let p = err-from-errBy (c .from-residual .result) (c .from-residual .ensures .1) in
     record { cases = rw (p .1, p .2) (record { says = stop; book = refl; noted = refl }) }
 
@@ -42,7 +43,8 @@ returns-in-Break-label c =
     let end = c .piece-end-end .result in
     let e = c .in-Break-label .field-0 .0 in
     let found = c .find-job-found .result in
-    let stop = label-stop ks o l b bytes first end (c .args .work) (c .pre .first) (c .piece-end-end .ensures) (c .pre .work) found e (c .find-job-found .ensures .value) (c .in-Continue-new-name .ensures tt) (sym (c .in-Break-label .ensures tt)) in
+    let stop = label-stop ks o l b bytes first end (c .args .work) (c .pre .first) (c .piece-end-end .ensures) (c .pre .work) found e
+    (c .find-job-found .ensures .value) (c .in-Continue-new-name .ensures tt) (sym (c .in-Break-label .ensures tt)) in
     let p = err-from-errBy (c .from-residual-in-Break-label .result) (c .from-residual-in-Break-label .ensures .1) in
     record { cases = rw (p .1, p .2) (record { says = stop; book = refl; noted = refl }) }
 
@@ -60,9 +62,17 @@ returns-in-Err c =
     let found = c .find-job-found .result in
     let k = c .args .work in
     let label = c .in-Continue-label .label in
-    let line = said ks o l b bytes first end k (c .pre .first) (c .piece-end-end .ensures) (c .pre .work) found label (c .find-job-found .ensures .value) (c .in-Continue-new-name .ensures tt) (sym (c .in-Continue-label .ensures tt)) in
+    let line = said ks o l b bytes first end k (c .pre .first) (c .piece-end-end .ensures) (c .pre .work) found label
+    (c .find-job-found .ensures .value) (c .in-Continue-new-name .ensures tt) (sym (c .in-Continue-label .ensures tt)) in
     let answer = sym (c .in-Err .ensures tt .answer) in
-    record { cases = record { says = line .says ∙ booked-err l b (c .in-Err .reason) _ (line .line) answer; book = c .in-Err .ensures tt .after ∙ add-refused k o label (c .in-Err .reason) answer; noted = refl } }
+    record {
+      cases = record {
+        says = line .says ∙ booked-err l b (c .in-Err .reason) _ (line .line) answer;
+        book = c .in-Err .ensures tt .after ∙
+            add-refused k o label (c .in-Err .reason) answer;
+        noted = refl;
+      };
+    }
 
 pub index-names-count : need.index-names-count
 index-names-count c = let s = held-sound (c .args .book .now) .some in omega (arith, s, ap length (c .jobs .ensures), c .pre .room)
@@ -82,7 +92,8 @@ returns c =
     let k = c .args .work in
     let label = c .in-Continue-label .label in
     let q = c .piece-end-end .ensures in
-    let line = said ks o l b bytes first end k (c .pre .first) q (c .pre .work) found label (c .find-job-found .ensures .value) (c .in-Continue-new-name .ensures tt) (sym (c .in-Continue-label .ensures tt)) in
+    let line = said ks o l b bytes first end k (c .pre .first) q (c .pre .work) found label (c .find-job-found .ensures .value)
+    (c .in-Continue-new-name .ensures tt) (sym (c .in-Continue-label .ensures tt)) in
     let answer = sym (c .in-rest .ensures tt .answer) in
     let count : length (c .jobs .result .now) - 1 ≡ length (o .jobs) - 1 = ap (λ js. length js - 1) (c .jobs .ensures) in
     record {

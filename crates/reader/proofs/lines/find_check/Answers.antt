@@ -57,4 +57,7 @@ returns-in-None-check c =
 pub returns-in-None : need.returns-in-None
 returns-in-None c =
     let b = held (c .args .book .now) in
-    record { value = sym (ap (check-of (known-by (c .args .text .now) (c .args .names .now) b)) (sym (c .find-job .ensures .value) ∙ c .in-None .is)); few = tt }
+    record {
+      value = sym (ap (check-of (known-by (c .args .text .now) (c .args .names .now) b)) (sym (c .find-job .ensures .value) ∙ c .in-None .is));
+      few = tt;
+    }

@@ -25,4 +25,8 @@ returns c =
     let n : length (c .jobs .result .now) - 1 - 0 ≡ length (b .jobs) - 1 = omega (arith, ap length (c .jobs .ensures)) in
     let named = stands-named text names b (held-sound (c .args .book .now)) (c .pre .stands) in
     let found = c .job-number .ensures ∙ ap (λ k. number-among text (take k names) w) n in
-    record { value = found ∙ sym (known-number text (known-places names b) b w named); within = in-list _ _ (λ j e. number-bound text (known-places names b) b w j named (sym found ∙ e)) }
+    record {
+      value = found ∙ sym (known-number text (known-places names b) b w named);
+      within = in-list _ _
+          (λ j e. number-bound text (known-places names b) b w j named (sym found ∙ e));
+    }

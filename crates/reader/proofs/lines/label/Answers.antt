@@ -22,7 +22,8 @@ returns-in-Break-label c =
     let end = c .piece-end-end .result in
     let b = c .args .line .byte + at in
     let w : List ℕ = take (end - at) (drop at bytes) in
-    let stop = labelled-stop (c .loop-at .label) ks l b w (pieces-from 32 bytes (end + 1)) (c .in-Break-label .field-0 .0) (sym (c .in-Break-label .ensures tt)) in
+    let stop = labelled-stop (c .loop-at .label) ks l b w (pieces-from 32 bytes (end + 1)) (c .in-Break-label .field-0 .0)
+    (sym (c .in-Break-label .ensures tt)) in
     let p = err-from-errBy (c .from-residual .result) (c .from-residual .ensures .1) in
     p .1 ∙ (ap Err (p .2) ∙ sym (sym (c .loop-at .inv .0) ∙ (ap (labelled (c .loop-at .label) ks l b) (c .piece-end-end .ensures .is) ∙ stop)))
 
@@ -42,5 +43,10 @@ loop-at-again c =
     let from = c .piece-end-end .ensures .from in
     let long : length w ≡ end - at = length-take-le (end - at) (drop at bytes) (omega (arith, length-drop at bytes)) in
     let place : c .args .line .byte + (end + 1) ≡ b + length w + 1 = omega arith in
-    let moved = ap (λ n. labelled next ks l n rest) place ∙ sym more in
-    (moved ∙ (sym (ap (labelled (c .loop-at .label) ks l b) (c .piece-end-end .ensures .is)) ∙ c .loop-at .inv .0), omega arith, refl, c .pre .stands, c .pre .inside)
+    let moved = ap (λ n. labelled next ks l n rest) place ∙ sym more in (
+      moved ∙ (sym (ap (labelled (c .loop-at .label) ks l b) (c .piece-end-end .ensures .is)) ∙ c .loop-at .inv .0),
+      omega arith,
+      refl,
+      c .pre .stands,
+      c .pre .inside,
+    )

@@ -13,7 +13,8 @@ abbrev pub Inv-loop-at : given.InvT-loop-at
 Inv-loop-at l =
     (labelled (l .label) (known-by (l .text) (l .names) (held (l .book))) (l .line .number) (l .line .byte + l .at) (pieces-from 32 (l .bytes) (l .at)) ≡
     labelled empty-label (known-by (l .text) (l .names) (held (l .book))) (l .line .number) (l .line .byte + l .start) (pieces-from 32 (l .bytes) (l .start)))
-    × (l .at ≤ length (l .bytes) + 1) × (l .bytes ≡ now (l .line .bytes)) × Stands (l .text) (l .names) (held (l .book)) × (l .line .byte + length (l .bytes) ≤ 8192)
+    × (l .at ≤ length (l .bytes) + 1) × (l .bytes ≡ now (l .line .bytes)) × Stands (l .text) (l .names) (held (l .book)) ×
+    (l .line .byte + length (l .bytes) ≤ 8192)
 
 abbrev pub μ-loop-at : given.MeasureT-loop-at
 μ-loop-at l = length (l .bytes) + 1 - l .at

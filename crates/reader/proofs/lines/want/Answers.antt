@@ -28,7 +28,10 @@ pub wanting-requires : need.wanting-requires
 wanting-requires c κs =
     let w = c .args .word .now in
     let name : List ℕ = take (length w - 1) (drop 1 w) in
-    record { few = few-found (c .find-check-found .result) (c .args .line) (c .args .at) (c .in-Continue-c .c) name (c .find-check-found .ensures .few) (sym (c .in-Continue-c .ensures tt)) }
+    record {
+      few = few-found (c .find-check-found .result) (c .args .line) (c .args .at) (c .in-Continue-c .c) name (c .find-check-found .ensures .few)
+          (sym (c .in-Continue-c .ensures tt));
+    }
 
 pub returns : need.returns
 returns c =

@@ -28,10 +28,12 @@ pub returns-then-n-eq0 : need.returns-then-n-eq0
 returns-then-n-eq0 c = zero-minutes (c .args .word .now) _ (omega arith) (c .if-word-ne45 .left) (c .in-Continue-n-2 .ensures tt) (c .if-n-eq0 .taken)
 
 pub cast-result-2 : need.cast-result-2
-cast-result-2 c = let h = small (take (length (c .args .word .now) - 1) (drop 1 (c .args .word .now))) (c .in-Continue-n-2 .n) (c .in-Continue-n-2 .ensures tt) in search needs
+cast-result-2 c = let h = small (take (length (c .args .word .now) - 1) (drop 1 (c .args .word .now))) (c .in-Continue-n-2 .n)
+    (c .in-Continue-n-2 .ensures tt) in search needs
 
 pub sub-result : need.sub-result
-sub-result c = let h = small (take (length (c .args .word .now) - 1) (drop 1 (c .args .word .now))) (c .in-Continue-n-2 .n) (c .in-Continue-n-2 .ensures tt) in search needs
+sub-result c = let h = small (take (length (c .args .word .now) - 1) (drop 1 (c .args .word .now))) (c .in-Continue-n-2 .n)
+    (c .in-Continue-n-2 .ensures tt) in search needs
 
 pub returns : need.returns
 returns c =

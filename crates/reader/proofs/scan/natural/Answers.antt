@@ -16,7 +16,11 @@ returns-then-d-lt48 c =
     let w = c .args .word .now in
     let i = c .loop-d .d-index in
     let out : (getD w i 0 < 48) ⊎ (57 < getD w i 0) =
-    elim (c .then-d-lt48 .came) [ then-d-lt48·by·then-d-lt48 v ↦ inl (v .if-d-lt48 .taken) | then-d-lt48·by·else-d-lt48·then-d-gt57 v ↦ inr (v .if-d-gt57 .taken) ] in
+    elim (c .then-d-lt48 .came) [
+      | then-d-lt48·by·then-d-lt48 v ↦ inl (v .if-d-lt48 .taken)
+      | then-d-lt48·by·else-d-lt48·then-d-gt57 v ↦ inr
+          (v .if-d-gt57 .taken)
+    ] in
     natural-not (c .args .most) w (sym (c .loop-d .inv .0) ∙ digit-stop w i (c .loop-d-test .taken) out)
 
 pub mul-v : need.mul-v
@@ -40,7 +44,11 @@ returns c =
     let w = c .args .word .now in
     let i = c .loop-d .d-index in
     let way : (length w ≤ 1) ⊎ (getD w 0 0 ≡ 48 → ⊥) =
-    elim (c .else-n-gt1 .came) [ else-n-gt1·by·then-n-gt1·else-word-eq48 v ↦ inr (v .if-word-eq48 .left) | else-n-gt1·by·else-n-gt1 v ↦ inl (v .if-n-gt1 .left) ] in
+    elim (c .else-n-gt1 .came) [
+      | else-n-gt1·by·then-n-gt1·else-word-eq48 v ↦ inr (v .if-word-eq48 .left)
+      | else-n-gt1·by·else-n-gt1 v ↦ inl
+          (v .if-n-gt1 .left)
+    ] in
     let all = sym (c .loop-d .inv .0) ∙ at-drop-all digits w i (c .loop-d-test .left) in
     let value = sym (c .loop-d .inv .1) ∙ at-drop-all (number-after (c .loop-d .v)) w i (c .loop-d-test .left) in
     natural-is (c .args .most) (c .loop-d .v) w all (c .if-n-lt1 .left) (c .if-n-most .left) way value

@@ -29,7 +29,8 @@ job-requires c κs =
     let n : first - 0 ≡ first = omega arith in
     let w = job-word (take first bytes) (spelled (take first bytes) Job (c .in-Jobs-Job .ensures tt ∙ ap (λ k. word-of (take k bytes)) n)) in
     let section = sym (c .in-Continue-line .ensures tt .section) ∙ c .in-Jobs-Job .is-0 in
-    let due : length (held (c .args .book .now) .jobs) + c .in-Jobs-Job .k ≤ length (c .args .names .now) + 1 = subst (λ x. Due (length (c .args .names .now)) x (length (held (c .args .book .now) .jobs))) section (c .pre .due) in
+    let due : length (held (c .args .book .now) .jobs) + c .in-Jobs-Job .k ≤ length (c .args .names .now) + 1 = subst
+    (λ x. Due (length (c .args .names .now)) x (length (held (c .args .book .now) .jobs))) section (c .pre .due) in
     record { lies = t .lies; first = c .piece-end-first .ensures; work = w; stands = c .pre .stands; room = omega (arith, due, c .if-k-gt0 .taken) }
 
 pub job-requires-in-Jobs-Check : need.job-requires-in-Jobs-Check
@@ -40,7 +41,8 @@ job-requires-in-Jobs-Check c κs =
     let n : first - 0 ≡ first = omega arith in
     let w = check-word (take first bytes) (spelled (take first bytes) Check (c .in-Jobs-Check .ensures tt ∙ ap (λ k. word-of (take k bytes)) n)) in
     let section = sym (c .in-Continue-line .ensures tt .section) ∙ c .in-Jobs-Check .is-0 in
-    let due : length (held (c .args .book .now) .jobs) + c .in-Jobs-Check .k ≤ length (c .args .names .now) + 1 = subst (λ x. Due (length (c .args .names .now)) x (length (held (c .args .book .now) .jobs))) section (c .pre .due) in
+    let due : length (held (c .args .book .now) .jobs) + c .in-Jobs-Check .k ≤ length (c .args .names .now) + 1 = subst
+    (λ x. Due (length (c .args .names .now)) x (length (held (c .args .book .now) .jobs))) section (c .pre .due) in
     record { lies = t .lies; first = c .piece-end-first .ensures; work = w; stands = c .pre .stands; room = omega (arith, due, c .if-k-gt0-2 .taken) }
 
 pub bound-requires : need.bound-requires

@@ -17,5 +17,10 @@ returns-then-end-text c =
     let end = c .piece-end-end .result in
     let p = c .piece-end-end .ensures in
     let last = last-piece 10 text at end p (omega (arith, c .if-end-text .taken)) in
-    let long : at + length (take (end - at) (drop at text)) ≡ end = omega (arith, p .from, p .within, length-take-le (end - at) (drop at text) (omega (arith, length-drop at text, p .within, p .from))) in
-    record { cases = record { says = ap (line-in l at) last ∙ (ap (λ n. fault Unfinished l n) long ∙ ap Err (sym (c .fault .ensures))) }; text = refl; section = refl }
+    let long : at + length (take (end - at) (drop at text)) ≡ end = omega
+    (arith, p .from, p .within, length-take-le (end - at) (drop at text) (omega (arith, length-drop at text, p .within, p .from))) in
+    record {
+      cases = record { says = ap (line-in l at) last ∙ (ap (λ n. fault Unfinished l n) long ∙ ap Err (sym (c .fault .ensures))) };
+      text = refl;
+      section = refl;
+    }
