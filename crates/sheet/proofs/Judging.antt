@@ -115,8 +115,7 @@ pub sheet-put : (b : Plain) (name : ℕ → List ℕ) (minutes : List ℤ) (orig
     → Sheet-put b name page two
 sheet-put b name minutes origins v page one two j p q short =
     let verdicts = verdict-lines (v .strong) (v .dynamic) (v .weakly .good) in
-    let rest = rest-lines b name (strongest (v .strong) (v .dynamic) (v .weakly .good)) (take (size b) minutes) (v .weakly .case) (take (v .weakly .length) origins) in
-    (
+    let rest = rest-lines b name (strongest (v .strong) (v .dynamic) (v .weakly .good)) (take (size b) minutes) (v .weakly .case) (take (v .weakly .length) origins) in (
       verdicts ++ rest,
       record {
         strong = v .strong;

@@ -12,11 +12,11 @@ ghost use Rattle.verdicts.specs.Verdicts.{size};
 ghost use Rattle.sheet.specs.Sheet.{rest-lines, Within, name-of, Named};
 ghost use Rattle.sheet.specs.Judged.{Judged, Sheet-put};
 use crate::grade::Grade;
+use crate::judge::judge;
 use crate::lines::put_loop;
 use crate::lines::put_table;
 use crate::lines::put_verdicts;
 use crate::lines::strongest;
-use crate::judge::judge;
 use crate::verdict::Verdicts;
 use crate::verdict::Weakly;
 use book::keeping::Book;
@@ -94,7 +94,17 @@ fn put_judged(
     let size = book.cases() as usize * book.jobs().len();
     put_verdicts(heap, page, strong, dynamic, good)?;
     let grade = strongest(strong, dynamic, good);
-    put_rest(heap, page, book, text, places, grade, &minutes[0..size], case, &origins[0..length])?;
+    put_rest(
+        heap,
+        page,
+        book,
+        text,
+        places,
+        grade,
+        &minutes[0..size],
+        case,
+        &origins[0..length],
+    )?;
     Ok(())
 }
 
