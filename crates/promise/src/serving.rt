@@ -41,7 +41,7 @@ pub(crate) fn serve_all(
     ensures { λ _. ⌜ All-served (desk (held (now (book .entry))) (now (minutes .entry)) (now (loops .entry))) (now (requests .entry))
         (vec-items (now (replies .exit))) (desk (held (now (book .exit))) (now (minutes .exit)) (now (loops .exit))) ⌝ }
 {
-    for request in requests {
-        replies.push_reserved(serve(book, *request, minutes, loops));
+    for asked in requests {
+        replies.push_reserved(serve(book, *asked, minutes, loops));
     }
 }

@@ -5,9 +5,9 @@ use Rattle.book.specs.Held.{held}
 use Rattle.promise.specs.Serving.{desk, All-served}
 use Rattle.promise.proofs.serving.serve_all.Given as given
 
-abbrev pub Inv-loop-request : given.InvT-loop-request
-Inv-loop-request l =
-    All-served (desk (held (l .entry .book)) (l .entry .minutes) (l .entry .loops)) (take (l .request-index) (l .requests)) (vec-items (l .replies))
+abbrev pub Inv-loop-asked : given.InvT-loop-asked
+Inv-loop-asked l =
+    All-served (desk (held (l .entry .book)) (l .entry .minutes) (l .entry .loops)) (take (l .asked-index) (l .requests)) (vec-items (l .replies))
     (desk (held (l .book)) (l .minutes) (l .loops))
-    × (vec-len (l .replies) ≡ l .request-index)
+    × (vec-len (l .replies) ≡ l .asked-index)
     × (vec-cap (l .replies) ≡ vec-cap (l .entry .replies))

@@ -17,12 +17,13 @@ returns g c =
     let after = desk (held book) (c .serve-all .last .minutes) (c .serve-all .last .loops) in
     let fresh : held (c .in-Continue-book .book) ≡ new-book = c .in-Continue-book .ensures tt in
     let begun = desk new-book (c .args .minutes .now) (c .args .loops .now) in
-    let served : All-served begun requests (vec-items (c .serve-all .last .replies)) after =
-    subst (λ b. All-served (desk b (c .args .minutes .now) (c .args .loops .now)) requests (vec-items (c .serve-all .last .replies)) after) fresh (c .serve-all .ensures) in
+    let replies = vec-items (c .serve-all .last .replies) in
+    let served : All-served begun requests replies after =
+    subst (λ b. All-served (desk b (c .args .minutes .now) (c .args .loops .now)) requests replies after) fresh (c .serve-all .ensures) in
     let P : Run → Type 0 = λ r. Run-kept (held book) (c .args .outcomes .now) r in
     record {
       served = served;
-      book = plan-served begun requests (vec-items (c .serve-all .last .replies)) after served;
+      book = plan-served begun requests replies after served;
       found = c .find-found .ensures;
       run = elim (c .match-make-ready .came) [
         | in-Yes w ↦ subst P (sym (w .run-is)) (record {
