@@ -1,4 +1,10 @@
 // Leading a crew through the run of a plan text.
+ghost use mathlib.Core.Path.{_≡_};
+ghost use Prim.Native.Nat.{_<_};
+ghost use lib.Chars.{codes};
+ghost use lib.ListN.{length};
+ghost use Rattle.std.specs.Of.Vec.{vec-items};
+ghost use Rattle.std.specs.Vec.{made};
 use crate::lines::put_ending;
 use crate::lines::put_events;
 use crate::lines::put_fault;
@@ -40,7 +46,9 @@ fn put_plan(
 ) -> Result<(), AllocError> {
     let mut sheet = RunSheet::new(heap)?;
     match sheet.make_ready(book) {
-        Readiness::No => page.extend_from_slice(b"the plan is not dynamic: no crew is led through it\n"),
+        Readiness::No => page.extend_from_slice(
+            b"the plan is not dynamic: no crew is led through it\n",
+        ),
         Readiness::Yes => {
             let walked = walk(&sheet, outcomes);
             put_walk(heap, page, book, text, places, &walked, outcomes.len())
@@ -66,16 +74,28 @@ fn put_text(
     }
 }
 
-// What a crew reads that is led through the run of a plan text, its checks having these outcomes in the order in which they are asked.
-pub fn lead(heap: Global, text: &[u8], words: &[String]) -> Result<Vec<u8>, AllocError> {
-    let mut page = Vec::new(heap);
+// Puts the run of a plan text whose checks have the outcomes that the words say.
+fn put_words(
+    heap: Global,
+    page: &mut Vec<u8>,
+    text: &[u8],
+    words: &[String],
+) -> Result<(), AllocError> {
     match outcomes(heap, words)? {
-        None => {
-            page.extend_from_slice(b"an outcome is neither yes nor no\n")?;
-        }
-        Some(list) => {
-            put_text(heap, &mut page, text, list.as_slice())?;
-        }
+        None => page.extend_from_slice(b"an outcome is neither yes nor no\n"),
+        Some(list) => put_text(heap, page, text, list.as_slice()),
     }
+}
+
+// What a crew reads that is led through the run of a plan text, its checks having these outcomes in the order in which they are asked.
+pub fn lead(heap: Global, text: &[u8], words: &[String]) -> Result<Vec<u8>, AllocError>
+    ensures { λ r. ⌜ made r (λ v. 4 < length (now (words .entry)) → vec-items v ≡ codes "too many outcomes: a plan has at most 4 checks\n") ⌝ }
+{
+    let mut page = Vec::new(heap);
+    if words.len() > 4 {
+        page.extend_from_slice(b"too many outcomes: a plan has at most 4 checks\n")?;
+        return Ok(page);
+    }
+    put_words(heap, &mut page, text, words)?;
     Ok(page)
 }
