@@ -7,7 +7,7 @@ loop-x-preserved g c =
     let m = take_more c.args.from.now c.loop-x.x-index c.x-item.result c.loop-x-test.true in
     let is = c.x-item.is in
     let inv = c.loop-x.invariant.0 in
-    (cc, omega (arith, c.push-reserved.ensures.len, c.loop-x.invariant.1), c.push-reserved.ensures.capacity ∙ c.loop-x.invariant.2)
+    (cc, omega (arith, c.push_reserved.ensures.len, c.loop-x.invariant.1), c.push_reserved.ensures.capacity ∙ c.loop-x.invariant.2)
 
 pub returns : goal.returns
 returns g c = record {

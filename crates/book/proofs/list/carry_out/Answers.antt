@@ -10,9 +10,9 @@ pub loop-call-preserved : goal.loop-call-preserved
 loop-call-preserved c =
     let i = c.loop-call.invariant in
     let s = carried c.args.calls.now c.loop-call.call-index _ (held c.loop-call.book) (held c.carry.new.book)
-    (vec_items c.loop-call.given) (vec_items c.push-reserved.new.self) c.carry.result c.loop-call-test.true
-    i.0 i.1 c.carry.ensures.answer c.carry.ensures.after c.push-reserved.ensures.items in
-    (s.0, s.1, omega (arith, c.push-reserved.ensures.len, i.2), omega (arith, c.push-reserved.ensures.capacity, i.3))
+    (vec_items c.loop-call.given) (vec_items c.push_reserved.new.self) c.carry.result c.loop-call-test.true
+    i.0 i.1 c.carry.ensures.answer c.carry.ensures.after c.push_reserved.ensures.items in
+    (s.0, s.1, omega (arith, c.push_reserved.ensures.len, i.2), omega (arith, c.push_reserved.ensures.capacity, i.3))
 
 pub returns : goal.returns
 returns c =

@@ -12,8 +12,8 @@ bounds-table-way g c =
     let place = ap (λ (x : Alternative). x.place) c.offered-way.ensures in
     omega (arith, bounds.within, place)
 
-pub offset-bounds-table-way : goal.offset-bounds-table-way
-offset-bounds-table-way g c =
+pub offset_bounds-table-way : goal.offset_bounds-table-way
+offset_bounds-table-way g c =
     let sound = g.T.RuleSystem.sound c.args.t.now in
     let bounds = (sound.each c.args.r c.requires.known).each c.args.a c.requires.counted in
     let place = ap (λ (x : Alternative). x.place) c.offered-way.ensures in

@@ -16,15 +16,15 @@ returns-in-None g c =
     let minutes = c.args.minutes.now in
     let (good, kept) = c.in-None.ensures.searched in
     let wide : m.places ≤ length table = omega (arith, sound.few, good.wide) in
-    let written = subst (λ n. c.write-out.new.minutes ≡ map pos (take n table) ++ drop n minutes) c.places-n.ensures c.write-out.ensures in (
+    let written = subst (λ n. c.write_out.new.minutes ≡ map pos (take n table) ++ drop n minutes) c.places-n.ensures c.write_out.ensures in (
       omega (arith, c.places-n.ensures, c.if-minutes-n.false),
       omega (arith, c.places-n.ensures, c.if-out-n.false),
       (take m.places table, ends m sound table wide good.under kept, written),
       refl,
     )
 
-pub write-loop-requires : goal.write-loop-requires
-write-loop-requires g c =
+pub write_loop-requires : goal.write_loop-requires
+write_loop-requires g c =
     let sound = g.T.RuleSystem.sound c.args.t.now in
     let (bar, here) = c.in-Some.ensures.searched in
     record {
@@ -40,5 +40,5 @@ returns-in-Some g c =
       omega (arith, c.places-n.ensures, c.if-out-n.false),
       none_keeps (g.T.RuleSystem.meaning c.args.t.now) c.search.new.by c.search.new.inside c.in-Some.p bar here,
       refl,
-      c.write-loop.ensures,
+      c.write_loop.ensures,
     )

@@ -14,8 +14,8 @@ bounds-seen-p g c =
     let sound = g.T.RuleSystem.sound c.args.t.now in
     omega (arith, sound.few, c.loop-seen.invariant.place, c.loop-seen.invariant.wide)
 
-pub offset-bounds-seen-p : goal.offset-bounds-seen-p
-offset-bounds-seen-p g c =
+pub offset_bounds-seen-p : goal.offset_bounds-seen-p
+offset_bounds-seen-p g c =
     let sound = g.T.RuleSystem.sound c.args.t.now in
     omega (arith, sound.few, c.loop-seen.invariant.place, c.loop-seen.invariant.wide)
 
@@ -24,13 +24,13 @@ bounds-seen-p-in-loop-seen g c =
     let sound = g.T.RuleSystem.sound c.args.t.now in
     omega (arith, sound.few, c.loop-seen.invariant.place, c.loop-seen.invariant.wide)
 
-pub offset-bounds-seen-p-in-loop-seen : goal.offset-bounds-seen-p-in-loop-seen
-offset-bounds-seen-p-in-loop-seen g c =
+pub offset_bounds-seen-p-in-loop-seen : goal.offset_bounds-seen-p-in-loop-seen
+offset_bounds-seen-p-in-loop-seen g c =
     let sound = g.T.RuleSystem.sound c.args.t.now in
     omega (arith, sound.few, c.loop-seen.invariant.place, c.loop-seen.invariant.wide)
 
-pub offset-bounds-by-p : goal.offset-bounds-by-p
-offset-bounds-by-p g c =
+pub offset_bounds-by-p : goal.offset_bounds-by-p
+offset_bounds-by-p g c =
     let sound = g.T.RuleSystem.sound c.args.t.now in
     omega (arith, sound.few, c.loop-seen.invariant.place, c.loop-seen.invariant.wide)
 

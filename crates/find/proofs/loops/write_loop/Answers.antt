@@ -4,8 +4,8 @@ use Rattle.rules.proofs.Walks.{chain_known}
 use Rattle.find.specs.Answers.{origin_of}
 use Rattle.find.proofs.loops.write_loop.Goals as goal
 
-pub write-origins-requires : goal.write-origins-requires
-write-origins-requires g c =
+pub write_origins-requires : goal.write_origins-requires
+write_origins-requires g c =
     let m = g.T.RuleSystem.meaning c.args.t.now in
     let part = c.walk-from.result in
     let rs = take (part.to - part.from) (drop part.from c.walk-from.new.out) in
@@ -24,4 +24,4 @@ returns g c =
     let (low, high) = c.walk-from.ensures.within in
     let room : part.to - part.from ≤ length (drop part.from walked) = omega (arith, length-drop part.from walked, low, high, sound.few) in
     let n : length rs ≡ part.to - part.from = length-take-le (part.to - part.from) (drop part.from walked) room in
-    (rs, c.walk-from.ensures.closes, n, subst (λ k. c.write-origins.new.out ≡ map f rs ++ drop k out) n c.write-origins.ensures)
+    (rs, c.walk-from.ensures.closes, n, subst (λ k. c.write_origins.new.out ≡ map f rs ++ drop k out) n c.write_origins.ensures)

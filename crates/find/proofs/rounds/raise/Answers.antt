@@ -9,8 +9,8 @@ bounds-table-p g c =
     let sound = g.T.RuleSystem.sound c.args.t.now in
     omega (arith, (sound.each c.args.r c.requires.known).within, sound.few, c.requires.good.wide, c.held-p.ensures)
 
-pub offset-bounds-table-p : goal.offset-bounds-table-p
-offset-bounds-table-p g c =
+pub offset_bounds-table-p : goal.offset_bounds-table-p
+offset_bounds-table-p g c =
     let sound = g.T.RuleSystem.sound c.args.t.now in
     omega (arith, (sound.each c.args.r c.requires.known).within, sound.few, c.held-p.ensures)
 
@@ -28,8 +28,8 @@ returns-then-x-table g c =
     let m = g.T.RuleSystem.meaning c.args.t.now in
     let table = c.args.table.now in
     let r = c.args.r in
-    let x = c.least-asked-x.result in
-    let kept = stays table (rule m r) x c.least-asked-x.ensures (subst (λ p. x ≤ at table p) c.held-p.ensures c.if-x-table.true) in
+    let x = c.least_asked-x.result in
+    let kept = stays table (rule m r) x c.least_asked-x.ensures (subst (λ p. x ≤ at table p) c.held-p.ensures c.if-x-table.true) in
     record { good = good_on m r (r + 1) table c.args.by.now (omega arith) c.requires.good; grown = (refl, kept) }
 
 pub returns : goal.returns
@@ -39,8 +39,8 @@ returns g c =
     let table = c.args.table.now in
     let by = c.args.by.now in
     let r = c.args.r in
-    let x = c.least-asked-x.result in
-    let asked = c.least-asked-x.ensures in
+    let x = c.least_asked-x.result in
+    let asked = c.least_asked-x.ensures in
     let held = (rule m r).held in
     let p = c.held-p.result in
     let e : p ≡ held = c.held-p.ensures in

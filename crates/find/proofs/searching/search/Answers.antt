@@ -27,7 +27,7 @@ low_again g c p =
     let by = c.round.new.by in
     let long : length c.mark.new.inside ≡ 320 = omega (arith, c.mark.auto.inside, c.loop-table.auto.inside, c.requires.wide) in
     peeled_low m sound table by c.round.ensures.good.recorded c.mark.new.inside c.peel.new.inside long c.mark.ensures
-    c.peel.ensures.peels p (c.in-default.ensures p)
+    c.peel.ensures.peels p (c.in_default.ensures p)
 
 pub loop-table-smaller : goal.loop-table-smaller
 loop-table-smaller g c =

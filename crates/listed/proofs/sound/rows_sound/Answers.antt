@@ -12,12 +12,12 @@ returns-then-places-eq0 c =
     decides_no (λ (s : Sound (system_of c.args.places rows)).
     absurd (omega (arith, s.some, s.few, s.few_rules, length-map rows rule_of, c.then-places-eq0.either)))
 
-pub returns-then-not-row-sound : goal.returns-then-not-row-sound
-returns-then-not-row-sound c =
+pub returns-then-not-row_sound : goal.returns-then-not-row_sound
+returns-then-not-row_sound c =
     let rows = c.args.rows.now in
     let r = c.loop-row.row-index in
     decides_no (λ (s : Sound (system_of c.args.places rows)).
-    c.if-not-row-sound.ensures.1
+    c.if-not-row_sound.ensures.1
     (subst (SoundRule c.args.places) (rows_rule c.args.places rows r _ c.loop-row-test.true)
     (s.each r (omega (arith, length-map rows rule_of, c.loop-row-test.true)))))
 
@@ -26,7 +26,7 @@ loop-row-preserved c =
     let rows = c.args.rows.now in
     let r = c.loop-row.row-index in
     below_more (λ k. SoundRule c.args.places (rule (system_of c.args.places rows) k)) r c.loop-row.invariant
-    (subst (SoundRule c.args.places) (sym (rows_rule c.args.places rows r _ c.loop-row-test.true)) (c.if-not-row-sound.ensures.0 refl))
+    (subst (SoundRule c.args.places) (sym (rows_rule c.args.places rows r _ c.loop-row-test.true)) (c.if-not-row_sound.ensures.0 refl))
 
 pub returns : goal.returns
 returns c =

@@ -7,8 +7,8 @@ use Rattle.promise.proofs.serving.serve_all.Goals as goal
 pub loop-asked-init : goal.loop-asked-init
 loop-asked-init c = ((c.requires.empty, refl), c.args.replies.now.ok.0 ∙ ap length c.requires.empty, refl)
 
-pub push-reserved-requires : goal.push-reserved-requires
-push-reserved-requires c = omega (arith, c.loop-asked.invariant.1, c.loop-asked.invariant.2, c.requires.room, c.loop-asked-test.true)
+pub push_reserved-requires : goal.push_reserved-requires
+push_reserved-requires c = omega (arith, c.loop-asked.invariant.1, c.loop-asked.invariant.2, c.requires.room, c.loop-asked-test.true)
 
 pub loop-asked-preserved : goal.loop-asked-preserved
 loop-asked-preserved c =
@@ -16,10 +16,10 @@ loop-asked-preserved c =
     let here = desk (held c.loop-asked.book) c.loop-asked.minutes c.loop-asked.loops in
     let after = desk (held c.serve.new.book) c.serve.new.minutes c.serve.new.loops in (
       served_more c.args.requests.now c.loop-asked.asked-index _ before here after
-          (vec_items c.loop-asked.replies) (vec_items c.push-reserved.new.self) c.serve.result
-          c.loop-asked-test.true c.push-reserved.ensures.items c.loop-asked.invariant.0 c.serve.ensures,
-      omega (arith, c.push-reserved.ensures.len, c.loop-asked.invariant.1),
-      c.push-reserved.ensures.capacity ∙ c.loop-asked.invariant.2,
+          (vec_items c.loop-asked.replies) (vec_items c.push_reserved.new.self) c.serve.result
+          c.loop-asked-test.true c.push_reserved.ensures.items c.loop-asked.invariant.0 c.serve.ensures,
+      omega (arith, c.push_reserved.ensures.len, c.loop-asked.invariant.1),
+      c.push_reserved.ensures.capacity ∙ c.loop-asked.invariant.2,
     )
 
 pub returns : goal.returns

@@ -10,8 +10,8 @@ returns-in-Some c =
     let w = c.args.line.bytes.now in
     let first = c.args.first in
     let b = c.args.line.byte in
-    let second : List ℕ = take (c.piece-end-end.result - (first + 1)) (drop (first + 1) w) in
-    let two = two_pieces w first c.piece-end-end.result c.requires.first c.piece-end-end.ensures (omega arith) in
+    let second : List ℕ = take (c.piece_end-end.result - (first + 1)) (drop (first + 1) w) in
+    let two = two_pieces w first c.piece_end-end.result c.requires.first c.piece_end-end.ensures (omega arith) in
     counted c.args.line.number b (cut 32 w) (take first w) second (Some c.in-Some.n) (b + (first + 1)) two c.in-Some.ensures
     (omega (arith, length-take-le first w c.requires.first.within))
 
@@ -20,8 +20,8 @@ returns-in-None c =
     let w = c.args.line.bytes.now in
     let first = c.args.first in
     let b = c.args.line.byte in
-    let second : List ℕ = take (c.piece-end-end.result - (first + 1)) (drop (first + 1) w) in
-    let two = two_pieces w first c.piece-end-end.result c.requires.first c.piece-end-end.ensures (omega arith) in
+    let second : List ℕ = take (c.piece_end-end.result - (first + 1)) (drop (first + 1) w) in
+    let two = two_pieces w first c.piece_end-end.result c.requires.first c.piece_end-end.ensures (omega arith) in
     ap Err c.fault-in-None.ensures
     ∙ counted c.args.line.number b (cut 32 w) (take first w) second None (b + (first + 1)) two c.in-None.ensures
     (omega (arith, length-take-le first w c.requires.first.within))

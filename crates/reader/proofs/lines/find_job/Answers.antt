@@ -4,11 +4,11 @@ use Rattle.reader.specs.Names.{Placed, number_among, known_places, known_by}
 use Rattle.reader.proofs.Naming.{stands_named, known_number, number_bound, in_list}
 use Rattle.reader.proofs.lines.find_job.Goals as goal
 
-pub overflow-sub-count : goal.overflow-sub-count
-overflow-sub-count c = let s = (held_sound c.args.book.now).some in omega (arith, s, ap length c.jobs.ensures)
+pub overflow_sub-count : goal.overflow_sub-count
+overflow_sub-count c = let s = (held_sound c.args.book.now).some in omega (arith, s, ap length c.jobs.ensures)
 
-pub job-number-requires : goal.job-number-requires
-job-number-requires c =
+pub job_number-requires : goal.job_number-requires
+job_number-requires c =
     let b = held c.args.book.now in
     let n : length c.jobs.result.now - 1 - 0 ≡ length b.jobs - 1 = omega (arith, ap length c.jobs.ensures) in
     record { placed = subst (λ k. Placed c.args.text.now (take k c.args.names.now)) (sym n) c.requires.stands.placed }

@@ -18,11 +18,11 @@ returns-then-d-lt48 c =
     ] in
     natural_not c.args.most w (sym c.loop-d.invariant.0 ∙ digit_stop w i c.loop-d-test.true out)
 
-pub overflow-mul-v : goal.overflow-mul-v
-overflow-mul-v c = let b = below_five c.loop-d.v c.loop-d.d-index c.loop-d.invariant.2 (omega (arith, c.requires.few)) in search rules
+pub overflow_mul-v : goal.overflow_mul-v
+overflow_mul-v c = let b = below_five c.loop-d.v c.loop-d.d-index c.loop-d.invariant.2 (omega (arith, c.requires.few)) in search rules
 
-pub overflow-add-v : goal.overflow-add-v
-overflow-add-v c = let b = below_five c.loop-d.v c.loop-d.d-index c.loop-d.invariant.2 (omega (arith, c.requires.few)) in search rules
+pub overflow_add-v : goal.overflow_add-v
+overflow_add-v c = let b = below_five c.loop-d.v c.loop-d.d-index c.loop-d.invariant.2 (omega (arith, c.requires.few)) in search rules
 
 pub loop-d-preserved : goal.loop-d-preserved
 loop-d-preserved c =

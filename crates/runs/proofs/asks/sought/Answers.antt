@@ -20,8 +20,8 @@ low c =
     let f = sound.few_jobs in
     omega arith
 
-pub overflow-cast-j : goal.overflow-cast-j
-overflow-cast-j c = let l = low c in search rules
+pub overflow_cast-j : goal.overflow_cast-j
+overflow_cast-j c = let l = low c in search rules
 
 pub has-requires : goal.has-requires
 has-requires c = let l = low c in record { low = omega arith }

@@ -9,9 +9,9 @@ loop-shown-preserved c =
     let row = c.args.row.now in
     let i = c.loop-shown.shown-index in
     let fits : SFits w32 (get_or row i (pos 0)) = search rules in
-    let e : natural (get_or row i (pos 0)) ≡ c.minute-of.result = sym (c.minute-of.ensures ∙ ap natural (to_z-of_z w32 (get_or row i (pos 0)) fits)) in
+    let e : natural (get_or row i (pos 0)) ≡ c.minute_of.result = sym (c.minute_of.ensures ∙ ap natural (to_z-of_z w32 (get_or row i (pos 0)) fits)) in
     subst (λ r. LeastBelow row c.args.from (i + 1) r) (sym c.lesser-least.ensures)
-    (least_more row c.args.from i c.loop-shown.least c.minute-of.result e c.loop-shown.invariant)
+    (least_more row c.args.from i c.loop-shown.least c.minute_of.result e c.loop-shown.invariant)
 
 pub returns : goal.returns
 returns c =

@@ -4,4 +4,4 @@ use Rattle.sheet.proofs.judge.judge.Goals as goal
 
 pub returns : goal.returns
 returns c =
-    judged (held c.args.book.now) (held_sound c.args.book.now) _ _ _ _ _ _ c.ask-weak-weakly.ensures c.ask-dynamic-dynamic.ensures c.ask-strong-strong.ensures
+    judged (held c.args.book.now) (held_sound c.args.book.now) _ _ _ _ _ _ c.ask_weak-weakly.ensures c.ask_dynamic-dynamic.ensures c.ask_strong-strong.ensures

@@ -12,7 +12,7 @@ loop-job-preserved c =
     let f : SFits w32 (get_or row i (pos 0)) = search rules in
     let z = to_z-of_z w32 (get_or row i (pos 0)) f in
     let name = name_of c.args.text.now c.args.places.now in
-    let put = c.in-ok-put-job.ensures.put in
+    let put = c.in_ok-put_job.ensures.put in
     let few = rw (sym c.name.ensures) at (name_short c.args.text.now c.args.places.now (length row) i c.requires.named (omega arith)) in
-    let short = c.in-ok-put-job.ensures.short few in
+    let short = c.in_ok-put_job.ensures.short few in
     (one_more name row i _ _ _ _ _ c.loop-job.invariant.0 c.name.ensures z put, jobs_fit name row i _ _ c.loop-job.invariant.1 c.name.ensures z short)

@@ -4,5 +4,5 @@ use Rattle.sheet.proofs.lines.put_name.Goals as goal
 
 pub returns : goal.returns
 returns c =
-    joins (vec_items c.args.page.now) c.args.name.now (10 ∷ []) _ _ c.in-ok-extend-from-slice.ensures.items
-    c.in-ok-extend-from-slice-2.ensures.items
+    joins (vec_items c.args.page.now) c.args.name.now (10 ∷ []) _ _ c.in_ok-extend_from_slice.ensures.items
+    c.in_ok-extend_from_slice-2.ensures.items

@@ -5,5 +5,5 @@ use Rattle.sheet.proofs.lines.put_start.Goals as goal
 
 pub returns : goal.returns
 returns c =
-    joins (vec_items c.args.page.now) (codes "start ") (line (c.args.job.now ∷ [])) _ _ c.in-ok-extend-from-slice.ensures.items
-    c.in-ok-put-name.ensures
+    joins (vec_items c.args.page.now) (codes "start ") (line (c.args.job.now ∷ [])) _ _ c.in_ok-extend_from_slice.ensures.items
+    c.in_ok-put_name.ensures

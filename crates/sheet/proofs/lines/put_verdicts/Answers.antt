@@ -9,5 +9,5 @@ returns c =
     let page = vec_items c.args.page.now in
     let strong = verdict_line Strong c.args.strong in
     let dynamic = verdict_line Dynamic c.args.dynamic in
-    let two = joins page strong dynamic _ _ c.in-ok-put-verdict.ensures c.in-ok-put-verdict-2.ensures in
-    joins page (strong ++ dynamic) (verdict_line Weak c.args.weak) _ _ two c.in-ok-put-verdict-3.ensures
+    let two = joins page strong dynamic _ _ c.in_ok-put_verdict.ensures c.in_ok-put_verdict-2.ensures in
+    joins page (strong ++ dynamic) (verdict_line Weak c.args.weak) _ _ two c.in_ok-put_verdict-3.ensures

@@ -7,8 +7,8 @@ use Rattle.sheet.specs.Sheet.{strongest, rest_lines, Within, name_of}
 use Rattle.sheet.proofs.Judging.{sheet_put}
 use Rattle.sheet.proofs.plan.put_judged.Goals as goal
 
-pub put-rest-requires : goal.put-rest-requires
-put-rest-requires c =
+pub put_rest-requires : goal.put_rest-requires
+put_rest-requires c =
     let b = held c.args.book.now in
     let minutes = c.args.minutes.now in
     let origins = c.args.origins.now in
@@ -38,6 +38,6 @@ returns c =
     let rows = take ((c.cases.result * length c.jobs.result.now) - 0) minutes in
     let list = take (n - 0) origins in
     let same = ap (λ g. rest_lines b name g rows v.weakly.case list) c.strongest-grade.ensures ∙ ap₂ (λ t u. rest_lines b name grade (take t minutes) v.weakly.case (take u origins)) wide long in
-    sheet_put b name minutes origins v (vec_items c.args.page.now) _ _ c.requires.judged c.in-ok-put-verdicts.ensures
-    (c.in-ok-put-rest.ensures.put ∙ ap (λ t. vec_items c.put-verdicts.new.page ++ t) same)
-    (subst (λ t. length t ≤ 6679) same c.in-ok-put-rest.ensures.short)
+    sheet_put b name minutes origins v (vec_items c.args.page.now) _ _ c.requires.judged c.in_ok-put_verdicts.ensures
+    (c.in_ok-put_rest.ensures.put ∙ ap (λ t. vec_items c.put_verdicts.new.page ++ t) same)
+    (subst (λ t. length t ≤ 6679) same c.in_ok-put_rest.ensures.short)

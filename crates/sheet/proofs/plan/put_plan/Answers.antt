@@ -6,8 +6,8 @@ use Rattle.sheet.proofs.plan.put_plan.Goals as goal
 pub judge-said-requires : goal.judge-said-requires
 judge-said-requires c = record { room = size_fits (held c.args.book.now) (held_sound c.args.book.now); list = omega arith }
 
-pub put-judged-requires : goal.put-judged-requires
-put-judged-requires c = record {
+pub put_judged-requires : goal.put_judged-requires
+put_judged-requires c = record {
   named = c.requires.named;
   room = omega (arith, size_fits (held c.args.book.now) (held_sound c.args.book.now), c.judge-said.auto.minutes);
   list = omega (arith, c.judge-said.auto.origins);

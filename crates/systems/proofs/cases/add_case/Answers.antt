@@ -13,8 +13,8 @@ use Rattle.systems.proofs.Due.{no_hold, if_due, in_each, by_jobs}
 use Rattle.systems.proofs.cases.add_case.Goals as goal
 use Rattle.systems.proofs.cases.add_case.Goals.{then-due, else-due}
 
-pub overflow-mul-base : goal.overflow-mul-base
-overflow-mul-base c =
+pub overflow_mul-base : goal.overflow_mul-base
+overflow_mul-base c =
     let b = held c.args.book.now in
     let same = ap (λ xs. c.args.case * length xs) c.jobs.ensures in
     let sound = held_sound c.args.book.now in
@@ -23,8 +23,8 @@ overflow-mul-base c =
 pub loop-r-init : goal.loop-r-init
 loop-r-init c = adds_none 8192 (rules_of c.args.out.now) (rules_few c.args.out.now)
 
-pub case-row-requires : goal.case-row-requires
-case-row-requires c =
+pub case_row-requires : goal.case_row-requires
+case_row-requires c =
     let b = held c.args.book.now in
     let sound = held_sound c.args.book.now in
     let s = c.args.case in
@@ -59,7 +59,7 @@ loop-r-preserved c =
     elim c.if-due.branch [
       | then-due w ↦
           let put : Adds 8192 now (x ∷ []) after =
-          ap rules_of w.out-is ∙ rule_put c.loop-r.out w.push.new.self w.case-row.result x w.push.ensures (w.case-row.ensures ∙ base) in
+          ap rules_of w.out-is ∙ rule_put c.loop-r.out w.push.new.self w.case_row.result x w.push.ensures (w.case_row.ensures ∙ base) in
           adds_when 8192 (due b s hold) (x ∷ []) now after (sym same ∙ w.if-due.true) put
       | else-due w ↦ adds_not 8192 (due b s hold) (x ∷ []) now after (sym same ∙ w.if-due.false) (ap rules_of w.out-is) (rules_few c.loop-r.out)
     ] in

@@ -12,8 +12,8 @@ use Rattle.systems.proofs.collect.add_bounds.Goals as goal
 pub loop-i-init : goal.loop-i-init
 loop-i-init c = adds_none 164 (items c.args.out.now) (items_few c.args.out.now)
 
-pub bound-hold-requires : goal.bound-hold-requires
-bound-hold-requires c =
+pub bound_hold-requires : goal.bound_hold-requires
+bound_hold-requires c =
     let b = held c.args.book.now in
     let same : c.bounds-bounds.result.now ≡ b.bounds = c.bounds-bounds.ensures in
     let h : c.loop-i.i < length b.bounds = omega (arith, ap length same) in

@@ -9,5 +9,5 @@ loop-j-init c = adds_none 164 (items c.args.out.now) (items_few c.args.out.now)
 
 pub loop-j-preserved : goal.loop-j-preserved
 loop-j-preserved c =
-    adds_more 164 (items c.args.out.now) (items c.loop-j.out) (items c.add-checks-of.new.out) c.loop-j.j
-    (check_holds_of (held c.args.book.now)) c.loop-j.invariant c.add-checks-of.ensures
+    adds_more 164 (items c.args.out.now) (items c.loop-j.out) (items c.add_checks_of.new.out) c.loop-j.j
+    (check_holds_of (held c.args.book.now)) c.loop-j.invariant c.add_checks_of.ensures

@@ -7,7 +7,7 @@ use Rattle.systems.specs.Adding.{Adds}
 use Rattle.systems.proofs.Between.{unknown_if}
 use Rattle.systems.proofs.Adding.{adds_none, adds_more, adds_when, adds_not, rules_few, rule_put}
 use Rattle.systems.proofs.unknown.add_between.Goals as goal
-use Rattle.systems.proofs.unknown.add_between.Goals.{then-both-do, else-both-do}
+use Rattle.systems.proofs.unknown.add_between.Goals.{then-both_do, else-both_do}
 
 pub loop-j-init : goal.loop-j-init
 loop-j-init c = adds_none 8192 (rules_of c.args.out.now) (rules_few c.args.out.now)
@@ -21,15 +21,15 @@ loop-j-preserved c =
     let test = both_do b s t j in
     let x = unknown_rule b s t j in
     let now = rules_of c.loop-j.out in
-    let after = rules_of c.if-both-do.out in
+    let after = rules_of c.if-both_do.out in
     let same : c.both_do.result ≡ test = c.both_do.ensures in
     let more : Adds 8192 now (when test (x ∷ [])) after =
-    elim c.if-both-do.branch [
-      | then-both-do w ↦
+    elim c.if-both_do.branch [
+      | then-both_do w ↦
           let put : Adds 8192 now (x ∷ []) after =
-          ap rules_of w.out-is ∙ rule_put c.loop-j.out w.push.new.self w.unknown-row.result x w.push.ensures w.unknown-row.ensures in
-          adds_when 8192 test (x ∷ []) now after (sym same ∙ w.if-both-do.true) put
-      | else-both-do w ↦ adds_not 8192 test (x ∷ []) now after (sym same ∙ w.if-both-do.false) (ap rules_of w.out-is) (rules_few c.loop-j.out)
+          ap rules_of w.out-is ∙ rule_put c.loop-j.out w.push.new.self w.unknown_row.result x w.push.ensures w.unknown_row.ensures in
+          adds_when 8192 test (x ∷ []) now after (sym same ∙ w.if-both_do.true) put
+      | else-both_do w ↦ adds_not 8192 test (x ∷ []) now after (sym same ∙ w.if-both_do.false) (ap rules_of w.out-is) (rules_few c.loop-j.out)
     ] in
     adds_more 8192 (rules_of c.args.out.now) now after j (unknown_if b s t) c.loop-j.invariant more
 

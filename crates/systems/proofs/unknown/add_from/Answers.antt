@@ -9,5 +9,5 @@ loop-t-init c = adds_none 8192 (rules_of c.args.out.now) (rules_few c.args.out.n
 
 pub loop-t-preserved : goal.loop-t-preserved
 loop-t-preserved c =
-    adds_more 8192 (rules_of c.args.out.now) (rules_of c.loop-t.out) (rules_of c.add-between.new.out) c.loop-t.t
-    (unknown_between (held c.args.book.now) c.args.s) c.loop-t.invariant c.add-between.ensures
+    adds_more 8192 (rules_of c.args.out.now) (rules_of c.loop-t.out) (rules_of c.add_between.new.out) c.loop-t.t
+    (unknown_between (held c.args.book.now) c.args.s) c.loop-t.invariant c.add_between.ensures

@@ -9,5 +9,5 @@ loop-s-init c = adds_none 8192 (rules_of c.args.out.now) (rules_few c.args.out.n
 
 pub loop-s-preserved : goal.loop-s-preserved
 loop-s-preserved c =
-    adds_more 8192 (rules_of c.args.out.now) (rules_of c.loop-s.out) (rules_of c.add-from.new.out) c.loop-s.s
-    (unknown_from (held c.args.book.now)) c.loop-s.invariant c.add-from.ensures
+    adds_more 8192 (rules_of c.args.out.now) (rules_of c.loop-s.out) (rules_of c.add_from.new.out) c.loop-s.s
+    (unknown_from (held c.args.book.now)) c.loop-s.invariant c.add_from.ensures

@@ -4,11 +4,11 @@ use Rattle.book.specs.Done.{done}
 use Rattle.book.specs.Held.{held, held_sound}
 use Rattle.systems.proofs.unknown.tells_apart.Goals as goal
 
-pub overflow-shr-result : goal.overflow-shr-result
-overflow-shr-result c = omega (arith, c.requires.is, (held_sound c.args.book.now).few_checks)
+pub overflow_shr-result : goal.overflow_shr-result
+overflow_shr-result c = omega (arith, c.requires.is, (held_sound c.args.book.now).few_checks)
 
-pub overflow-shr-result-2 : goal.overflow-shr-result-2
-overflow-shr-result-2 c = omega (arith, c.requires.is, (held_sound c.args.book.now).few_checks)
+pub overflow_shr-result-2 : goal.overflow_shr-result-2
+overflow_shr-result-2 c = omega (arith, c.requires.is, (held_sound c.args.book.now).few_checks)
 
 pub returns : goal.returns
 returns c =

@@ -9,8 +9,8 @@ use Rattle.verdicts.proofs.filling.fill.Goals as goal
 pub loop-case-init : goal.loop-case-init
 loop-case-init c = ap (λ k. drop k c.args.minutes.now) (sym (zero-mul (length (held c.args.book.now).jobs)))
 
-pub fill-case-requires : goal.fill-case-requires
-fill-case-requires c =
+pub fill_case-requires : goal.fill_case-requires
+fill_case-requires c =
     let b = held c.args.book.now in
     let s = c.loop-case.case in
     let n = length b.jobs in
@@ -22,8 +22,8 @@ pub loop-case-preserved : goal.loop-case-preserved
 loop-case-preserved c =
     let b = held c.args.book.now in
     let g : ℕ → List ℤ = λ s. block b c.args.table.now (s * c.args.apart) s in
-    blocks_more g (length b.jobs) c.loop-case.case c.args.minutes.now c.loop-case.minutes c.fill-case.new.minutes
-    (λ s. block_length b c.args.table.now (s * c.args.apart) s) c.loop-case.invariant c.fill-case.ensures
+    blocks_more g (length b.jobs) c.loop-case.case c.args.minutes.now c.loop-case.minutes c.fill_case.new.minutes
+    (λ s. block_length b c.args.table.now (s * c.args.apart) s) c.loop-case.invariant c.fill_case.ensures
 
 pub returns : goal.returns
 returns c =

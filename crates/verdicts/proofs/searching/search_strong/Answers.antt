@@ -4,5 +4,5 @@ use Rattle.verdicts.proofs.searching.search_strong.Goals as goal
 
 pub returns : goal.returns
 returns c =
-    means c.args.table.now c.find-or-loop.new.minutes c.args.loops.now c.find-or-loop.new.out c.new-system.ensures.meaning
-    c.new-system.ensures.origins (refl {a = c.find-or-loop.result}) c.find-or-loop.ensures
+    means c.args.table.now c.find_or_loop.new.minutes c.args.loops.now c.find_or_loop.new.out c.new-system.ensures.meaning
+    c.new-system.ensures.origins (refl {a = c.find_or_loop.result}) c.find_or_loop.ensures

@@ -12,14 +12,14 @@ use Rattle.verdicts.proofs.verdicts.weak.Goals as goal
 pub loop-case-init : goal.loop-case-init
 loop-case-init c = (weak_starts (held c.args.book.now) (held_sound c.args.book.now) _, refl, refl)
 
-pub search-case-requires : goal.search-case-requires
-search-case-requires c =
+pub search_case-requires : goal.search_case-requires
+search_case-requires c =
     let book = c.args.book.now in
     let is : c.loop-case.case < cases (held book) = omega (arith, c.cases-case-end.ensures) in
     omega (arith, part_fits (held book) (held_sound book) c.loop-case.case is, c.loop-case.invariant.2)
 
-pub returns-in-err-found : goal.returns-in-err-found
-returns-in-err-found c =
+pub returns-in_err-found : goal.returns-in_err-found
+returns-in_err-found c =
     let book = c.args.book.now in
     let b = held book in
     let s = c.loop-case.case in
@@ -29,7 +29,7 @@ returns-in-err-found c =
     omega (arith, part_fits b (held_sound book) s is, c.loop-case.invariant.2) in
     let long : 20 ≤ length c.loop-case.loops = omega (arith, ap length c.loop-case.invariant.1) in
     absurd
-    (never_short b (held_sound book) (weak_system b s) _ _ c.in-err-found.field-0.0 refl wide long c.in-err-found.ensures.said.0)
+    (never_short b (held_sound book) (weak_system b s) _ _ c.in_err-found.field-0.0 refl wide long c.in_err-found.ensures.said.0)
 
 pub returns-in-Loop : goal.returns-in-Loop
 returns-in-Loop c =
@@ -38,11 +38,11 @@ returns-in-Loop c =
     let s = c.loop-case.case in
     let is : s < cases b = omega (arith, c.cases-case-end.ensures) in
     let before = drop (part b s) c.loop-case.table in
-    let after = drop (part b s) c.search-case.new.table in
+    let after = drop (part b s) c.search_case.new.table in
     let loops = c.loop-case.loops in
-    let loops_after = c.search-case.new.loops in
+    let loops_after = c.search_case.new.loops in
     let n = c.in-Loop.length in
-    let said = means before after loops loops_after refl refl (ap Ok c.in-Loop.is) c.in-ok-found.ensures.said in
+    let said = means before after loops loops_after refl refl (ap Ok c.in-Loop.is) c.in_ok-found.ensures.said in
     let (none, lowest, looped) = weak_loop b (held_sound book) s c.loop-case.table before after loops loops_after n is c.loop-case.invariant.0 said in
     let first = subst (λ xs. Looped (weak_system b s) (weak_origins b s) xs loops_after n) c.loop-case.invariant.1 looped in
     subst (λ a. WeakAnswered b c.args.minutes.now c.args.minutes.now c.args.loops.now loops_after (Ok a)) (sym c.fails.ensures)
@@ -54,15 +54,15 @@ loop-case-preserved c =
     let b = held book in
     let s = c.loop-case.case in
     let table = c.loop-case.table in
-    let table-after = c.search-case.new.table in
+    let table-after = c.search_case.new.table in
     let loops = c.loop-case.loops in
-    let loops_after = c.search-case.new.loops in
-    let answer = c.in-ok-found.ensures in
+    let loops_after = c.search_case.new.loops in
+    let answer = c.in_ok-found.ensures in
     let said =
     means (drop (part b s) table) (drop (part b s) table-after) loops loops_after refl refl (ap Ok c.in-Table.is) answer.said in (
       weak_more b (held_sound book) s table table-after loops loops_after c.loop-case.invariant.0 said answer.front,
       said.3 ∙ c.loop-case.invariant.1,
-      c.search-case.auto.table ∙ c.loop-case.invariant.2,
+      c.search_case.auto.table ∙ c.loop-case.invariant.2,
     )
 
 pub fill-requires : goal.fill-requires

@@ -4,10 +4,10 @@ use Rattle.book.specs.Sound.{Sound}
 use Rattle.book.proofs.Kept.{add_check_keeps}
 use Rattle.book.proofs.keeping.Book.add_check.Goals as goal
 
-pub add-check-requires : goal.add-check-requires
-add-check-requires c = record { sound = held_sound c.args.self.now; room = c.args.self.now.room }
+pub add_check-requires : goal.add_check-requires
+add_check-requires c = record { sound = held_sound c.args.self.now; room = c.args.self.now.room }
 
-pub invariant-of-self : goal.invariant-of-self
-invariant-of-self c =
+pub invariant_of-self : goal.invariant_of-self
+invariant_of-self c =
     let kept = add_check_keeps (held c.args.self.now) c.args.label (omega arith) (omega arith) (held_sound c.args.self.now) in
     (c.add_check.ensures.room, (∣ subst Sound (sym c.add_check.ensures.after) kept ∣₁, tt))

@@ -4,10 +4,10 @@ use Rattle.book.specs.Sound.{Sound}
 use Rattle.book.proofs.Kept.{add_job_keeps}
 use Rattle.book.proofs.keeping.Book.add_job.Goals as goal
 
-pub add-job-requires : goal.add-job-requires
-add-job-requires c = record { sound = held_sound c.args.self.now; room = c.args.self.now.room }
+pub add_job-requires : goal.add_job-requires
+add_job-requires c = record { sound = held_sound c.args.self.now; room = c.args.self.now.room }
 
-pub invariant-of-self : goal.invariant-of-self
-invariant-of-self c =
+pub invariant_of-self : goal.invariant_of-self
+invariant_of-self c =
     let kept = add_job_keeps (held c.args.self.now) c.args.label (omega arith) (omega arith) (held_sound c.args.self.now) in
     (c.add_job.ensures.room, (∣ subst Sound (sym c.add_job.ensures.after) kept ∣₁, tt))

@@ -3,8 +3,8 @@ use Rattle.std.proofs.lemmas.Nat.{one_shl}
 use Rattle.book.specs.Held.{held_sound}
 use Rattle.book.proofs.keeping.Book.cases.Goals as goal
 
-pub overflow-shl-result : goal.overflow-shl-result
-overflow-shl-result c = omega (arith, c.checks.ensures, (held_sound c.args.self.now).few_checks)
+pub overflow_shl-result : goal.overflow_shl-result
+overflow_shl-result c = omega (arith, c.checks.ensures, (held_sound c.args.self.now).few_checks)
 
 pub returns : goal.returns
 returns c =

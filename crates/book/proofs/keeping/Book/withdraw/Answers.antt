@@ -4,7 +4,7 @@ use Rattle.book.specs.Sound.{Sound}
 use Rattle.book.proofs.Kept.{withdraw_keeps}
 use Rattle.book.proofs.keeping.Book.withdraw.Goals as goal
 
-pub invariant-of-self : goal.invariant-of-self
-invariant-of-self c =
+pub invariant_of-self : goal.invariant_of-self
+invariant_of-self c =
     let kept = withdraw_keeps (held c.args.self.now) c.args.n (held_sound c.args.self.now) in
     (c.withdraw.ensures.room, (∣ subst Sound (sym c.withdraw.ensures.after) kept ∣₁, tt))

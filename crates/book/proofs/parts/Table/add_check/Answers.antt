@@ -15,10 +15,10 @@ returns-in-Some c =
       room = c.requires.room;
     }
 
-pub push-reserved-requires : goal.push-reserved-requires
-push-reserved-requires c =
+pub push_reserved-requires : goal.push_reserved-requires
+push_reserved-requires c =
     let t = c.args.self.now in
-    omega (arith, (check_taken (plain t) c.args.label (sym c.in-default.ensures)).0.room, t.jobs.ok, c.requires.room.0)
+    omega (arith, (check_taken (plain t) c.args.label (sym c.in_default.ensures)).0.room, t.jobs.ok, c.requires.room.0)
 
 pub returns : goal.returns
 returns c =
@@ -26,11 +26,11 @@ returns c =
     let b = plain t in
     let l = c.args.label in
     let grown = with_job b (record { label = l; check = Some (checks b) }) in
-    let e = c.in-default.ensures in
+    let e = c.in_default.ensures in
     let n : c.len-n.result ≡ length b.jobs = omega (arith, c.len-n.ensures, t.jobs.ok) in
-    let items = c.push-reserved.ensures.items ∙ ap (λ k. vec_items t.jobs ++ record { label = l; check = Some k } ∷ []) c.checks.ensures in
+    let items = c.push_reserved.ensures.items ∙ ap (λ k. vec_items t.jobs ++ record { label = l; check = Some k } ∷ []) c.checks.ensures in
     record {
       answer = taken_answer (check_refusal b l) c.len-n.result (length b.jobs) grown b n e;
       after = taken_after (check_refusal b l) (length b.jobs) grown b _ (λ i. record { jobs = items i; bounds = vec_items t.bounds }) e;
-      room = (omega (arith, c.push-reserved.ensures.capacity, c.requires.room.0), c.requires.room.1);
+      room = (omega (arith, c.push_reserved.ensures.capacity, c.requires.room.0), c.requires.room.1);
     }

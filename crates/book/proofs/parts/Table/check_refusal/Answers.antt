@@ -27,4 +27,4 @@ returns c =
     let k : checks (plain t) < 4 = omega (arith, c.if-checks-ge4.false, c.checks.ensures) in
     let e : full_jobs (plain t) ≡ false = grind (arith, nat_tests) in
     let f : leb 4 (checks (plain t)) ≡ false = grind (arith, nat_tests) in
-    c.label-refusal.ensures ∙ sym (passed (full_jobs (plain t)) _ _ e ∙ passed (leb 4 (checks (plain t))) _ _ f)
+    c.label_refusal.ensures ∙ sym (passed (full_jobs (plain t)) _ _ e ∙ passed (leb 4 (checks (plain t))) _ _ f)

@@ -16,4 +16,4 @@ returns c =
     let t = c.args.self.now in
     let h : length (vec_items t.jobs) < 20 = omega (arith, c.if-len-ge20.false, c.len.ensures, t.jobs.ok) in
     let e : full_jobs (plain t) ≡ false = grind (arith, nat_tests) in
-    c.label-refusal.ensures ∙ sym (passed (full_jobs (plain t)) _ _ e)
+    c.label_refusal.ensures ∙ sym (passed (full_jobs (plain t)) _ _ e)

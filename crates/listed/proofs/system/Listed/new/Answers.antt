@@ -5,17 +5,17 @@ use Rattle.rules.specs.Rows.{system_of, rule_of}
 use Rattle.rules.specs.Tables.{rows_of}
 use Rattle.listed.proofs.system.Listed.new.Goals as goal
 
-pub invariant-of-result : goal.invariant-of-result
-invariant-of-result c =
+pub invariant_of-result : goal.invariant_of-result
+invariant_of-result c =
     let rows = c.args.rows.now in
-    let sound : Sound (system_of c.args.places rows) = c.if-rows-sound.ensures.0 refl in
+    let sound : Sound (system_of c.args.places rows) = c.if-rows_sound.ensures.0 refl in
     let few : length rows ≤ 8192 = omega (arith, sound.few_rules, length-map rows rule_of) in
     let same : rows_of c.collected-table.result ≡ rows = c.collected-table.ensures ∙ take_all 8192 rows few in
     (∣ subst (λ xs. Sound (system_of c.args.places xs)) (sym same) sound ∣₁, tt)
 
-pub returns-then-rows-sound : goal.returns-then-rows-sound
-returns-then-rows-sound c =
+pub returns-then-rows_sound : goal.returns-then-rows_sound
+returns-then-rows_sound c =
     let rows = c.args.rows.now in
-    let sound : Sound (system_of c.args.places rows) = c.if-rows-sound.ensures.0 refl in
+    let sound : Sound (system_of c.args.places rows) = c.if-rows_sound.ensures.0 refl in
     let few : length rows ≤ 8192 = omega (arith, sound.few_rules, length-map rows rule_of) in
     (refl, c.collected-table.ensures ∙ take_all 8192 rows few)

@@ -10,71 +10,71 @@ use Rattle.reader.proofs.state.Reader.enter.Goals as goal
 
 pub count-requires : goal.count-requires
 count-requires c =
-    let t = c.in-ok-line.ensures.cases in
-    record { inside = omega (arith, t.lies.within, t.lies.short); first = c.piece-end-first.ensures }
+    let t = c.in_ok-line.ensures.cases in
+    record { inside = omega (arith, t.lies.within, t.lies.short); first = c.piece_end-first.ensures }
 
 pub count-requires-in-Jobs-Bounds : goal.count-requires-in-Jobs-Bounds
 count-requires-in-Jobs-Bounds c =
-    let t = c.in-ok-line.ensures.cases in
-    record { inside = omega (arith, t.lies.within, t.lies.short); first = c.piece-end-first.ensures }
+    let t = c.in_ok-line.ensures.cases in
+    record { inside = omega (arith, t.lies.within, t.lies.short); first = c.piece_end-first.ensures }
 
 pub job-requires : goal.job-requires
 job-requires c =
-    let t = c.in-ok-line.ensures.cases in
-    let bytes = c.in-ok-line.line.bytes.now in
-    let first = c.piece-end-first.result in
+    let t = c.in_ok-line.ensures.cases in
+    let bytes = c.in_ok-line.line.bytes.now in
+    let first = c.piece_end-first.result in
     let n : first - 0 ≡ first = omega arith in
     let w = job_word (take first bytes) (spelled (take first bytes) Job (c.in-Jobs-Job.ensures ∙ ap (λ k. word_of (take k bytes)) n)) in
-    let section = sym c.in-ok-line.ensures.section ∙ c.in-Jobs-Job.is-0 in
+    let section = sym c.in_ok-line.ensures.section ∙ c.in-Jobs-Job.is-0 in
     let due : length (held c.args.book.now).jobs + c.in-Jobs-Job.k ≤ length c.args.names.now + 1 = subst
     (λ x. Due (length c.args.names.now) x (length (held c.args.book.now).jobs)) section c.requires.due in
-    record { lies = t.lies; first = c.piece-end-first.ensures; work = w; stands = c.requires.stands; room = omega (arith, due, c.if-k-gt0.true) }
+    record { lies = t.lies; first = c.piece_end-first.ensures; work = w; stands = c.requires.stands; room = omega (arith, due, c.if-k-gt0.true) }
 
 pub job-requires-in-Jobs-Check : goal.job-requires-in-Jobs-Check
 job-requires-in-Jobs-Check c =
-    let t = c.in-ok-line.ensures.cases in
-    let bytes = c.in-ok-line.line.bytes.now in
-    let first = c.piece-end-first.result in
+    let t = c.in_ok-line.ensures.cases in
+    let bytes = c.in_ok-line.line.bytes.now in
+    let first = c.piece_end-first.result in
     let n : first - 0 ≡ first = omega arith in
     let w = check_word (take first bytes) (spelled (take first bytes) Check (c.in-Jobs-Check.ensures ∙ ap (λ k. word_of (take k bytes)) n)) in
-    let section = sym c.in-ok-line.ensures.section ∙ c.in-Jobs-Check.is-0 in
+    let section = sym c.in_ok-line.ensures.section ∙ c.in-Jobs-Check.is-0 in
     let due : length (held c.args.book.now).jobs + c.in-Jobs-Check.k ≤ length c.args.names.now + 1 = subst
     (λ x. Due (length c.args.names.now) x (length (held c.args.book.now).jobs)) section c.requires.due in
-    record { lies = t.lies; first = c.piece-end-first.ensures; work = w; stands = c.requires.stands; room = omega (arith, due, c.if-k-gt0-2.true) }
+    record { lies = t.lies; first = c.piece_end-first.ensures; work = w; stands = c.requires.stands; room = omega (arith, due, c.if-k-gt0-2.true) }
 
 pub bound-requires : goal.bound-requires
 bound-requires c =
-    let t = c.in-ok-line.ensures.cases in
-    let bytes = c.in-ok-line.line.bytes.now in
-    let first = c.piece-end-first.result in
+    let t = c.in_ok-line.ensures.cases in
+    let bytes = c.in_ok-line.line.bytes.now in
+    let first = c.piece_end-first.result in
     let n : first - 0 ≡ first = omega arith in
     let w = least_word (take first bytes) (spelled (take first bytes) Least (c.in-Bounds-Least.ensures ∙ ap (λ k. word_of (take k bytes)) n)) in
-    record { inside = omega (arith, t.lies.within, t.lies.short); first = c.piece-end-first.ensures; kind = w; stands = c.requires.stands }
+    record { inside = omega (arith, t.lies.within, t.lies.short); first = c.piece_end-first.ensures; kind = w; stands = c.requires.stands }
 
 pub bound-requires-in-Bounds-Most : goal.bound-requires-in-Bounds-Most
 bound-requires-in-Bounds-Most c =
-    let t = c.in-ok-line.ensures.cases in
-    let bytes = c.in-ok-line.line.bytes.now in
-    let first = c.piece-end-first.result in
+    let t = c.in_ok-line.ensures.cases in
+    let bytes = c.in_ok-line.line.bytes.now in
+    let first = c.piece_end-first.result in
     let n : first - 0 ≡ first = omega arith in
     let w = most_word (take first bytes) (spelled (take first bytes) Most (c.in-Bounds-Most.ensures ∙ ap (λ k. word_of (take k bytes)) n)) in
-    record { inside = omega (arith, t.lies.within, t.lies.short); first = c.piece-end-first.ensures; kind = w; stands = c.requires.stands }
+    record { inside = omega (arith, t.lies.within, t.lies.short); first = c.piece_end-first.ensures; kind = w; stands = c.requires.stands }
 
-pub returns-in-ok-job : goal.returns-in-ok-job
-returns-in-ok-job c =
-    let t = c.in-ok-line.ensures.cases in
-    let line = c.in-ok-line.line in
+pub returns-in_ok-job : goal.returns-in_ok-job
+returns-in_ok-job c =
+    let t = c.in_ok-line.ensures.cases in
+    let line = c.in_ok-line.line in
     let o = held c.args.book.now in
     let ns = c.args.names.now in
-    let j = c.in-ok-job.ensures.cases in
+    let j = c.in_ok-job.ensures.cases in
     let s = held_sound c.args.book.now in
-    let section = sym c.in-ok-line.ensures.section ∙ c.in-Jobs-Job.is-0 in
+    let section = sym c.in_ok-line.ensures.section ∙ c.in-Jobs-Job.is-0 in
     let due : length o.jobs + c.in-Jobs-Job.k ≤ length ns + 1 = subst (λ x. Due (length ns) x (length o.jobs)) section c.requires.due in
     let room : length o.jobs ≤ length ns = omega (arith, due, c.if-k-gt0.true) in
     let more = one_more _ line.number line.byte _ ns o _ _ j s c.requires.stands room in
     record {
       cases = record {
-        text = c.in-ok-line.ensures.text;
+        text = c.in_ok-line.ensures.text;
         onward = omega (arith, t.onward);
         room = same_room _ line.number line.byte _ ns o _ _ j s c.requires.stands room;
         stands = stands_after _ line.number line.byte _ ns o _ _ j s c.requires.stands room;
@@ -82,21 +82,21 @@ returns-in-ok-job c =
       };
     }
 
-pub returns-in-ok-job-2 : goal.returns-in-ok-job-2
-returns-in-ok-job-2 c =
-    let t = c.in-ok-line.ensures.cases in
-    let line = c.in-ok-line.line in
+pub returns-in_ok-job-2 : goal.returns-in_ok-job-2
+returns-in_ok-job-2 c =
+    let t = c.in_ok-line.ensures.cases in
+    let line = c.in_ok-line.line in
     let o = held c.args.book.now in
     let ns = c.args.names.now in
-    let j = c.in-ok-job-2.ensures.cases in
+    let j = c.in_ok-job-2.ensures.cases in
     let s = held_sound c.args.book.now in
-    let section = sym c.in-ok-line.ensures.section ∙ c.in-Jobs-Check.is-0 in
+    let section = sym c.in_ok-line.ensures.section ∙ c.in-Jobs-Check.is-0 in
     let due : length o.jobs + c.in-Jobs-Check.k ≤ length ns + 1 = subst (λ x. Due (length ns) x (length o.jobs)) section c.requires.due in
     let room : length o.jobs ≤ length ns = omega (arith, due, c.if-k-gt0-2.true) in
     let more = one_more _ line.number line.byte _ ns o _ _ j s c.requires.stands room in
     record {
       cases = record {
-        text = c.in-ok-line.ensures.text;
+        text = c.in_ok-line.ensures.text;
         onward = omega (arith, t.onward);
         room = same_room _ line.number line.byte _ ns o _ _ j s c.requires.stands room;
         stands = stands_after _ line.number line.byte _ ns o _ _ j s c.requires.stands room;
@@ -104,16 +104,16 @@ returns-in-ok-job-2 c =
       };
     }
 
-pub returns-in-ok-bound : goal.returns-in-ok-bound
-returns-in-ok-bound c =
-    let t = c.in-ok-line.ensures.cases in
-    let line = c.in-ok-line.line in
+pub returns-in_ok-bound : goal.returns-in_ok-bound
+returns-in_ok-bound c =
+    let t = c.in_ok-line.ensures.cases in
+    let line = c.in_ok-line.line in
     let o = held c.args.book.now in
     let ns = c.args.names.now in
-    let j = c.in-ok-bound.ensures.cases in
+    let j = c.in_ok-bound.ensures.cases in
     record {
       cases = record {
-        text = c.in-ok-line.ensures.text;
+        text = c.in_ok-line.ensures.text;
         onward = omega (arith, t.onward);
         room = refl;
         stands = bound_stands _ line.number line.byte _ ns o ns _ j c.requires.stands;
@@ -121,16 +121,16 @@ returns-in-ok-bound c =
       };
     }
 
-pub returns-in-ok-bound-2 : goal.returns-in-ok-bound-2
-returns-in-ok-bound-2 c =
-    let t = c.in-ok-line.ensures.cases in
-    let line = c.in-ok-line.line in
+pub returns-in_ok-bound-2 : goal.returns-in_ok-bound-2
+returns-in_ok-bound-2 c =
+    let t = c.in_ok-line.ensures.cases in
+    let line = c.in_ok-line.line in
     let o = held c.args.book.now in
     let ns = c.args.names.now in
-    let j = c.in-ok-bound-2.ensures.cases in
+    let j = c.in_ok-bound-2.ensures.cases in
     record {
       cases = record {
-        text = c.in-ok-line.ensures.text;
+        text = c.in_ok-line.ensures.text;
         onward = omega (arith, t.onward);
         room = refl;
         stands = bound_stands _ line.number line.byte _ ns o ns _ j c.requires.stands;

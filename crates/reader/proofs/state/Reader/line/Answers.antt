@@ -10,8 +10,8 @@ returns-then-end-text c =
     let text = c.args.self.now.text.now in
     let at = c.args.self.now.at in
     let l = c.args.self.now.line in
-    let end = c.piece-end-end.result in
-    let p = c.piece-end-end.ensures in
+    let end = c.piece_end-end.result in
+    let p = c.piece_end-end.ensures in
     let last = last_piece 10 text at end p (omega (arith, c.if-end-text.true)) in
     let long : at + length (take (end - at) (drop at text)) ≡ end = omega
     (arith, p.from, p.within, length-take-le (end - at) (drop at text) (omega (arith, length-drop at text, p.within, p.from))) in

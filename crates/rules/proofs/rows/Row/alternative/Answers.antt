@@ -9,8 +9,8 @@ returns-then-a-count c =
     let row = c.args.self in
     sym (row_none row c.args.a (omega (arith, row_count row, c.count.ensures, c.if-a-count.true)))
 
-pub offset-bounds-self-a : goal.offset-bounds-self-a
-offset-bounds-self-a c =
+pub offset_bounds-self-a : goal.offset_bounds-self-a
+offset_bounds-self-a c =
     let row = c.args.self in
     let five : length row.alternatives ≡ 5 = search rules in
     omega (arith, row_count row, c.count.ensures, c.if-a-count.false)

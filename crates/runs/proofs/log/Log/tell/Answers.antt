@@ -14,8 +14,8 @@ bounds-self-self c =
     let l = length_newest s.places s.count (omega arith) in
     omega (arith, c.requires.room)
 
-pub invariant-of-self : goal.invariant-of-self
-invariant-of-self c =
+pub invariant_of-self : goal.invariant_of-self
+invariant_of-self c =
     let s = c.args.self.now in
     let f = s.few in
     let z = s.sized in

@@ -3,7 +3,7 @@ use Rattle.book.specs.Plain.{Plain}
 use Rattle.walks.specs.Ready.{Ready}
 use Rattle.runs.proofs.sheet.RunSheet.make_ready.Goals as goal
 
-pub invariant-of-self : goal.invariant-of-self
-invariant-of-self c =
-    let r = subst (λ (p : Plain). Ready p c.fill.new.minutes) (sym c.copy-from.ensures) c.in-Yes.ensures in
+pub invariant_of-self : goal.invariant_of-self
+invariant_of-self c =
+    let r = subst (λ (p : Plain). Ready p c.fill.new.minutes) (sym c.copy_from.ensures) c.in-Yes.ensures in
     (search rules, (r.shown, (∣ r.earliest ∣₁, tt)))

@@ -12,12 +12,12 @@ ready b zeros e z =
     let new = new_ready (subst (λ (p : Plain). Sound p) e (held_sound b)) in
     subst (λ (l : List ℤ). Ready (held b) l) (sym z) (subst (λ (p : Plain). Ready p (replicate 320 (pos 0))) (sym e) new)
 
-pub invariant-of-result : goal.invariant-of-result
-invariant-of-result c =
-    let r = ready c.in-ok-book.book c.zeros.result c.in-ok-book.ensures c.zeros.ensures in
+pub invariant_of-result : goal.invariant_of-result
+invariant_of-result c =
+    let r = ready c.in_ok-book.book c.zeros.result c.in_ok-book.ensures c.zeros.ensures in
     (ap length c.zeros.ensures, (r.shown, (∣ r.earliest ∣₁, tt)))
 
 pub returns : goal.returns
 returns c =
-    let r = ready c.in-ok-book.book c.zeros.result c.in-ok-book.ensures c.zeros.ensures in
-    (c.in-ok-book.ensures, r)
+    let r = ready c.in_ok-book.book c.zeros.result c.in_ok-book.ensures c.zeros.ensures in
+    (c.in_ok-book.ensures, r)

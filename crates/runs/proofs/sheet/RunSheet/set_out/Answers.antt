@@ -10,8 +10,8 @@ use Rattle.runs.proofs.sheet.RunSheet.set_out.Goals as goal
 idle : (b : Plain) → NoneAwaited b []
 idle b c a = let z = bit_of_none (asking b c) in let e = a.1 in omega arith
 
-pub invariant-of-result : goal.invariant-of-result
-invariant-of-result c =
+pub invariant_of-result : goal.invariant_of-result
+invariant_of-result c =
     let b = plan c.args.self.now in
     let law = subst (λ (l : List Event). ∥ Lawful b (times c.args.self.now) l ∥₁) (sym c.new.ensures) ∣ tt ∣₁ in
     (law, (subst (λ (l : List Event). ∥ NoneAwaited b l ∥₁) (sym c.new.ensures) ∣ idle b ∣₁, tt))

@@ -27,15 +27,15 @@ report-requires c =
     let few = (held_sound r.sheet.now.book).few_checks in
     record { room = room r.sheet.now r.log r.law (Reported c.args.report) l; low = omega arith }
 
-pub invariant-of-result : goal.invariant-of-result
-invariant-of-result c =
+pub invariant_of-result : goal.invariant_of-result
+invariant_of-result c =
     let r = c.args.self in
     let sheet = r.sheet.now in
     let l = subst (λ (es : List Event). Lawful (plan sheet) (times sheet) es) (sym c.report.ensures) (hears r c.args.report c.requires.asked) in
     (∣ l ∣₁, (∣ none_next sheet c.report.new.self c.in-None.ensures ∣₁, tt))
 
-pub invariant-of-result-in-Some : goal.invariant-of-result-in-Some
-invariant-of-result-in-Some c =
+pub invariant_of-result-in-Some : goal.invariant_of-result-in-Some
+invariant_of-result-in-Some c =
     let r = c.args.self in
     let sheet = r.sheet.now in
     let l = subst (λ (es : List Event). Lawful (plan sheet) (times sheet) es) (sym c.report.ensures) (hears r c.args.report c.requires.asked) in

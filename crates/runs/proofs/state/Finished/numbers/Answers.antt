@@ -3,8 +3,8 @@ use lib.Count.{ones}
 use Rattle.runs.proofs.Carried.{ran, ended_still, last_told}
 use Rattle.runs.proofs.state.Finished.numbers.Goals as goal
 
-pub overflow-sub-result : goal.overflow-sub-result
-overflow-sub-result c =
+pub overflow_sub-result : goal.overflow_sub-result
+overflow_sub-result c =
     let r = c.args.self.now in
     let sheet = r.sheet.now in
     let last = last_told sheet r.log r.law (ended_still sheet r.log r.over) in

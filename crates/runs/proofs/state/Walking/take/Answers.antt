@@ -26,8 +26,8 @@ ends r next e o =
     let opens = subst (λ (x : Option Telling). Opens (plan r.sheet.now) (times r.sheet.now) r.log.yes r.log.time x) e o in
     ended r.sheet.now r.log r.law r.idle (opens (leading r.sheet.now r.log r.law))
 
-pub invariant-of-result : goal.invariant-of-result
-invariant-of-result c = (c.args.self.law, (∣ ends c.args.self c.args.next c.in-None.is c.requires.next ∣₁, tt))
+pub invariant_of-result : goal.invariant_of-result
+invariant_of-result c = (c.args.self.law, (∣ ends c.args.self c.args.next c.in-None.is c.requires.next ∣₁, tt))
 
 pub tell-requires : goal.tell-requires
 tell-requires c =
@@ -35,22 +35,22 @@ tell-requires c =
     let l = tells r c.args.next c.in-Some.telling c.in-Some.is c.requires.next in
     record { room = room r.sheet.now r.log r.law (Told c.in-Some.telling) l }
 
-pub invariant-of-result-in-None-lowest-sought : goal.invariant-of-result-in-None-lowest-sought
-invariant-of-result-in-None-lowest-sought c =
+pub invariant_of-result-in-None-lowest_sought : goal.invariant_of-result-in-None-lowest_sought
+invariant_of-result-in-None-lowest_sought c =
     let r = c.args.self in
     let sheet = r.sheet.now in
     let l = tells r c.args.next c.in-Some.telling c.in-Some.is c.requires.next in
     let law = subst (λ (es : List Event). Lawful (plan sheet) (times sheet) es) (sym c.tell.ensures) l in
-    (∣ law ∣₁, (∣ none_next sheet c.tell.new.self c.in-None-lowest-sought.ensures ∣₁, tt))
+    (∣ law ∣₁, (∣ none_next sheet c.tell.new.self c.in-None-lowest_sought.ensures ∣₁, tt))
 
-pub invariant-of-result-in-Some-lowest-sought : goal.invariant-of-result-in-Some-lowest-sought
-invariant-of-result-in-Some-lowest-sought c =
+pub invariant_of-result-in-Some-lowest_sought : goal.invariant_of-result-in-Some-lowest_sought
+invariant_of-result-in-Some-lowest_sought c =
     let r = c.args.self in
     let sheet = r.sheet.now in
     let l = tells r c.args.next c.in-Some.telling c.in-Some.is c.requires.next in
     let law = subst (λ (es : List Event). Lawful (plan sheet) (times sheet) es) (sym c.tell.ensures) l in
-    let check = c.in-Some-lowest-sought.check in
-    (∣ law ∣₁, (∣ asked_next sheet c.tell.new.self check c.in-Some-lowest-sought.ensures ∣₁, tt))
+    let check = c.in-Some-lowest_sought.check in
+    (∣ law ∣₁, (∣ asked_next sheet c.tell.new.self check c.in-Some-lowest_sought.ensures ∣₁, tt))
 
 pub returns-in-None : goal.returns-in-None
 returns-in-None c =
@@ -58,13 +58,13 @@ returns-in-None c =
     let end = ends r c.args.next c.in-None.is c.requires.next in
     record { on_sheet = refl; has_log = refl; ran = ran r.sheet.now r.log r.law end }
 
-pub returns-in-None-lowest-sought : goal.returns-in-None-lowest-sought
-returns-in-None-lowest-sought c =
+pub returns-in-None-lowest_sought : goal.returns-in-None-lowest_sought
+returns-in-None-lowest_sought c =
     let r = c.args.self in
     let sheet = r.sheet.now in
     let t = c.in-Some.telling in
     let l = tells r c.args.next t c.in-Some.is c.requires.next in
-    let idle = none_next sheet c.tell.new.self c.in-None-lowest-sought.ensures in
+    let idle = none_next sheet c.tell.new.self c.in-None-lowest_sought.ensures in
     record {
       on_sheet = refl;
       has_log = c.tell.ensures;
@@ -72,14 +72,14 @@ returns-in-None-lowest-sought c =
       idle = subst (λ (es : List Event). NoneAwaited (plan sheet) es) c.tell.ensures idle;
     }
 
-pub returns-in-Some-lowest-sought : goal.returns-in-Some-lowest-sought
-returns-in-Some-lowest-sought c =
+pub returns-in-Some-lowest_sought : goal.returns-in-Some-lowest_sought
+returns-in-Some-lowest_sought c =
     let r = c.args.self in
     let sheet = r.sheet.now in
     let t = c.in-Some.telling in
-    let check = c.in-Some-lowest-sought.check in
+    let check = c.in-Some-lowest_sought.check in
     let l = tells r c.args.next t c.in-Some.is c.requires.next in
-    let asks = asked_next sheet c.tell.new.self check c.in-Some-lowest-sought.ensures in
+    let asks = asked_next sheet c.tell.new.self check c.in-Some-lowest_sought.ensures in
     record {
       on_sheet = refl;
       has_log = c.tell.ensures;

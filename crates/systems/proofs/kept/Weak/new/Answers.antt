@@ -9,4 +9,4 @@ pub made-requires : goal.made-requires
 made-requires c =
     let b = held c.args.book.now in
     let sound = (systems_sound b (held_sound c.args.book.now)).1 c.args.case in
-    record { sound = subst (λ hs. Sound (single_system (length b.jobs) hs)) (sym c.collect-due-holds.ensures) sound }
+    record { sound = subst (λ hs. Sound (single_system (length b.jobs) hs)) (sym c.collect_due-holds.ensures) sound }
