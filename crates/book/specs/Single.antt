@@ -1,12 +1,12 @@
 -- To be sound is a proposition: a ghost field can hold it under `∥ ∥₁`, and give it back.
-use Rattle.std.specs.Prelude.{◌≡◌, ℕ, Some, None, Option, refl}
+use Rattle.std.specs.Prelude.{◌≡◌, ℕ, pos, neg_ℤ, ◌≤ℤ◌, Some, None, Option, refl}
 use Rattle.std.proofs.Common.{ap, arith}
 use mathlib.Core.HLevel.{hedberg}
 use Rattle.std.proofs.Math.Logic.{∥∥₁_elim}
 use Rattle.std.proofs.Math.Bridge.{le_prop}
 use Rattle.std.proofs.Math.Decide.{ℕ_discrete}
 use Rattle.std.proofs.Math.Nat.{ℕ_set}
-use denote.Struct.Props.{≤ℤ_prop}
+use denote.Struct.Props.{props}
 use Rattle.book.specs.declared.parts.Label.{Label}
 use Rattle.book.specs.declared.parts.Bound.{Bound}
 use Rattle.book.specs.Plain.{Plain, bound}
@@ -37,12 +37,18 @@ job_single b j x y = λ i. record {
   whole = λ c n k. (λ w. ℕ_set _ _ ((x.whole c n k).0 w) ((y.whole c n k).0 w) i, λ w. ℕ_set _ _ ((x.whole c n k).1 w) ((y.whole c n k).1 w) i);
 }
 
+low_single : (l : Bound) → IsProp (neg_ℤ (pos 4320) ≤ℤ l.minutes)
+low_single l = hlevel props
+
+high_single : (l : Bound) → IsProp (l.minutes ≤ℤ pos 4320)
+high_single l = hlevel props
+
 bound_single : (b : Plain) (l : Bound) → IsProp (SoundBound b l)
 bound_single b l x y = λ i. record {
   first_in = le_prop x.first_in y.first_in i;
   second_in = le_prop x.second_in y.second_in i;
-  low = ≤ℤ_prop x.low y.low i;
-  high = ≤ℤ_prop x.high y.high i;
+  low = low_single l x.low y.low i;
+  high = high_single l x.high y.high i;
   two = λ e. never (x.two e) {A = x.two e ≡ y.two e} i;
   together = λ e. never (x.together e) {A = x.together e ≡ y.together e} i;
 }

@@ -2,16 +2,12 @@
 use Rattle.std.proofs.Math.Logic.{∥∥₁_elim}
 use Rattle.std.specs.Prelude.{ℕ}
 use Rattle.std.proofs.Math.Bridge.{le_prop}
-use denote.Struct.Props.{≤ℤ_prop}
+use denote.Struct.Props.{props}
 use Rattle.rules.specs.declared.parts.Alternative.{Alternative}
 use Rattle.rules.specs.Rules.{System, Rule, Sound, SoundRule, SoundAlternative}
 
 alternative_single : (places : ℕ) (a : Alternative) → IsProp (SoundAlternative places a)
-alternative_single places a x y = λ i. record {
-  within = le_prop x.within y.within i;
-  low = ≤ℤ_prop x.low y.low i;
-  high = ≤ℤ_prop x.high y.high i;
-}
+alternative_single places a = hlevel props
 
 rule_single : (places : ℕ) (x : Rule) → IsProp (SoundRule places x)
 rule_single places rule x y = λ i. record {

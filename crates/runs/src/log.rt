@@ -1,7 +1,7 @@
 // The log of a run.
 ghost use Rattle.std.specs.Prelude.{◌≡◌, ◌^◌, ◌≤◌, length};
 ghost use Rattle.walks.specs.Logs.{just_told, all_told};
-ghost use Rattle.walks.specs.Standing.{heard_set, yes_set, time as time-of};
+ghost use Rattle.walks.specs.Standing.{heard_set, yes_set, time as time_of};
 ghost use Rattle.walks.specs.Newest.{newest};
 
 use walks::parts::Event;
@@ -24,5 +24,5 @@ pub struct Log {
     ghost yes_is: { yes ≡ yes_set (newest count places) },
     ghost just_is: { just ≡ just_told (newest count places) },
     ghost told_is: { told ≡ all_told (newest count places) },
-    ghost time_is: { time ≡ time-of (newest count places) },
+    ghost time_is: { time ≡ time_of (newest count places) },
 }

@@ -10,4 +10,4 @@ add_check-requires c = record { sound = held_sound c.args.self.now; room = c.arg
 pub invariant_of-self : goal.invariant_of-self
 invariant_of-self c =
     let kept = add_check_keeps (held c.args.self.now) c.args.label (omega arith) (omega arith) (held_sound c.args.self.now) in
-    (c.add_check.ensures.room, (∣ subst Sound (sym c.add_check.ensures.after) kept ∣₁, tt))
+    record { room = c.add_check.ensures.room; wellformed = ∣ subst Sound (sym c.add_check.ensures.after) kept ∣₁ }

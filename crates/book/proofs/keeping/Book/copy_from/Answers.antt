@@ -7,4 +7,4 @@ pub copy_from-requires : goal.copy_from-requires
 copy_from-requires c = record { sound = held_sound c.args.other.now; room = c.args.self.now.room }
 
 pub invariant_of-self : goal.invariant_of-self
-invariant_of-self c = (c.copy_from.ensures.room, (∣ subst Sound (sym c.copy_from.ensures.same) (held_sound c.args.other.now) ∣₁, tt))
+invariant_of-self c = record { room = c.copy_from.ensures.room; wellformed = ∣ subst Sound (sym c.copy_from.ensures.same) (held_sound c.args.other.now) ∣₁ }

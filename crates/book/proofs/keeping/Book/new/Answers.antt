@@ -13,4 +13,4 @@ invariant_of-result c =
     λ i. record { jobs = jobs i; bounds = bounds i } in
     let room = c.in_ok-jobs.ensures.capacity in
     let place = c.in_ok-bounds.ensures.capacity in
-    ((omega (arith, c.push_reserved.ensures.capacity), place), (∣ subst Sound (sym same) new_sound ∣₁, tt))
+    record { room = (omega (arith, c.push_reserved.ensures.capacity), place); wellformed = ∣ subst Sound (sym same) new_sound ∣₁ }
