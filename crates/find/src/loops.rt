@@ -20,11 +20,11 @@ struct Span {
 // Walks from a place that is barred, by the rules that bar it, until a place comes again. The rules are written over the
 // first of `out`; those between are a loop.
 fn walk<T: RuleSystem>(t: &T, by: &[usize], start: usize, out: &mut [usize]) -> Span
-    requires stuck { Stuck (meaning t.now) by.now start }
-    requires broad { (meaning t.now).places ≤ length by.now }
-    requires wide { (meaning t.now).places ≤ length out.old }
-    ensures within { (result.from ≤ result.to) × (result.to ≤ (meaning t.now).places) }
-    ensures closes { Loop (meaning t.now) (slice_range out.new result.from result.to) }
+    requires stuck { Stuck (T.meaning t.now) by.now start }
+    requires broad { (T.meaning t.now).places ≤ length by.now }
+    requires wide { (T.meaning t.now).places ≤ length out.old }
+    ensures within { (result.from ≤ result.to) × (result.to ≤ (T.meaning t.now).places) }
+    ensures closes { Loop (T.meaning t.now) (slice_range out.new result.from result.to) }
 {
     let mut seen = [0usize; 320];
     let mut p = start;
@@ -44,17 +44,17 @@ fn walk<T: RuleSystem>(t: &T, by: &[usize], start: usize, out: &mut [usize]) -> 
 
 // The origin of rule `r`.
 fn origin<T: WithOrigins>(t: &T, r: usize) -> Origin
-    requires known { r < length (T.RuleSystem.meaning t.now).rules }
-    ensures { result ≡ origin_of (origins t.now) r }
+    requires known { r < length (T.meaning t.now).rules }
+    ensures { result ≡ origin_of (T.origins t.now) r }
 {
     t.origin(r).unwrap()
 }
 
 // Writes the origins of these rules over the first of `out`.
 fn write_origins<T: WithOrigins>(t: &T, rs: &[usize], out: &mut [Origin])
-    requires known { (i : ℕ) → i < length rs.now → slice_index rs.now i < length (T.RuleSystem.meaning t.now).rules }
+    requires known { (i : ℕ) → i < length rs.now → slice_index rs.now i < length (T.meaning t.now).rules }
     requires wide { length rs.now ≤ length out.old }
-    ensures { out.new ≡ map (origin_of (origins t.now)) rs.now ++ drop (length rs.now) out.old }
+    ensures { out.new ≡ map (origin_of (T.origins t.now)) rs.now ++ drop (length rs.now) out.old }
 {
     for i in 0..rs.len() {
         out[i] = origin(t, rs[i]);
@@ -63,10 +63,10 @@ fn write_origins<T: WithOrigins>(t: &T, rs: &[usize], out: &mut [Origin])
 
 // Writes the origins of a loop over the first of `out`, and says how many they are.
 fn write_loop<T: WithOrigins>(t: &T, by: &[usize], start: usize, out: &mut [Origin]) -> usize
-    requires stuck { Stuck (T.RuleSystem.meaning t.now) by.now start }
-    requires broad { (T.RuleSystem.meaning t.now).places ≤ length by.now }
-    requires wide { (T.RuleSystem.meaning t.now).places ≤ length out.old }
-    ensures { Looped (T.RuleSystem.meaning t.now) (origins t.now) out.old out.new result }
+    requires stuck { Stuck (T.meaning t.now) by.now start }
+    requires broad { (T.meaning t.now).places ≤ length by.now }
+    requires wide { (T.meaning t.now).places ≤ length out.old }
+    ensures { Looped (T.meaning t.now) (T.origins t.now) out.old out.new result }
 {
     let mut walked = [0usize; 320];
     let Span { from, to } = walk(t, by, start, &mut walked);
@@ -81,7 +81,7 @@ pub fn find_or_loop<T: WithOrigins>(
     minutes: &mut [i32],
     out: &mut [Origin],
 ) -> Result<Explained, Refusal>
-    ensures { Explains (T.RuleSystem.meaning t.now) (origins t.now)
+    ensures { Explains (T.meaning t.now) (T.origins t.now)
         minutes.old minutes.new out.old out.new result }
 {
     let n = t.places();

@@ -18,9 +18,9 @@ pub(crate) fn mark(table: &[u32], inside: &mut [bool])
 
 // Whether an alternative of rule `r` leads to a place that is not marked.
 fn leads_out<T: RuleSystem>(t: &T, r: usize, inside: &[bool]) -> bool
-    requires known { r < length (meaning t.now).rules }
-    requires wide { (meaning t.now).places ≤ length inside.now }
-    ensures { LeadsOut (rule (meaning t.now) r) inside.now result }
+    requires known { r < length (T.meaning t.now).rules }
+    requires wide { (T.meaning t.now).places ≤ length inside.now }
+    ensures { LeadsOut (rule (T.meaning t.now) r) inside.now result }
 {
     for a in 0..count(t, r) {
         if !inside[offered(t, r, a).place] {
@@ -32,11 +32,11 @@ fn leads_out<T: RuleSystem>(t: &T, r: usize, inside: &[bool]) -> bool
 
 // Takes the mark off each place whose rule leads out, once, and says whether there was any.
 fn sweep<T: RuleSystem>(t: &T, by: &[usize], inside: &mut [bool]) -> bool
-    requires wide { (meaning t.now).places ≤ length inside.old }
-    requires broad { (meaning t.now).places ≤ length by.now }
-    requires ruled { (p : ℕ) → In inside.old p → Ruled (meaning t.now) by.now p }
-    ensures peels { Peels (meaning t.now) by.now inside.old inside.new }
-    ensures swept { Swept (meaning t.now) by.now inside.old inside.new result }
+    requires wide { (T.meaning t.now).places ≤ length inside.old }
+    requires broad { (T.meaning t.now).places ≤ length by.now }
+    requires ruled { (p : ℕ) → In inside.old p → Ruled (T.meaning t.now) by.now p }
+    ensures peels { Peels (T.meaning t.now) by.now inside.old inside.new }
+    ensures swept { Swept (T.meaning t.now) by.now inside.old inside.new result }
 {
     let mut dropped = false;
     for p in 0..t.places() {
@@ -50,11 +50,11 @@ fn sweep<T: RuleSystem>(t: &T, by: &[usize], inside: &mut [bool]) -> bool
 
 // Takes marks off until no rule of a marked place leads out.
 pub(crate) fn peel<T: RuleSystem>(t: &T, by: &[usize], inside: &mut [bool])
-    requires wide { (meaning t.now).places ≤ length inside.old }
-    requires broad { (meaning t.now).places ≤ length by.now }
-    requires ruled { (p : ℕ) → In inside.old p → Ruled (meaning t.now) by.now p }
-    ensures peels { Peels (meaning t.now) by.now inside.old inside.new }
-    ensures closed { Closed (meaning t.now) by.now inside.new }
+    requires wide { (T.meaning t.now).places ≤ length inside.old }
+    requires broad { (T.meaning t.now).places ≤ length by.now }
+    requires ruled { (p : ℕ) → In inside.old p → Ruled (T.meaning t.now) by.now p }
+    ensures peels { Peels (T.meaning t.now) by.now inside.old inside.new }
+    ensures closed { Closed (T.meaning t.now) by.now inside.new }
 {
     while sweep(t, by, inside) {}
 }

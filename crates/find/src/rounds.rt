@@ -19,10 +19,10 @@ fn put(table: &mut [u32], by: &mut [usize], p: usize, x: u32, r: usize)
 
 // Raises the place that rule `r` holds back, where the table does not keep the rule, and records the rule for it.
 fn raise<T: RuleSystem>(t: &T, r: usize, table: &mut [u32], by: &mut [usize]) -> bool
-    requires known { r < length (meaning t.now).rules }
-    requires good { Good (meaning t.now) r table.old by.old }
-    ensures good { Good (meaning t.now) (r + 1) table.new by.new }
-    ensures grown { Grown (Kept table.old (rule (meaning t.now) r)) table.old table.new result }
+    requires known { r < length (T.meaning t.now).rules }
+    requires good { Good (T.meaning t.now) r table.old by.old }
+    ensures good { Good (T.meaning t.now) (r + 1) table.new by.new }
+    ensures grown { Grown (Kept table.old (rule (T.meaning t.now) r)) table.old table.new result }
 {
     let x = least_asked(t, r, table);
     let p = held(t, r);
@@ -35,9 +35,9 @@ fn raise<T: RuleSystem>(t: &T, r: usize, table: &mut [u32], by: &mut [usize]) ->
 
 // Goes through the rules once, raising where it has to.
 pub(crate) fn round<T: RuleSystem>(t: &T, table: &mut [u32], by: &mut [usize]) -> bool
-    requires good { Good (meaning t.now) 0 table.old by.old }
-    ensures good { Good (meaning t.now) (length (meaning t.now).rules) table.new by.new }
-    ensures grown { Grown (AllKept (meaning t.now) table.old) table.old table.new result }
+    requires good { Good (T.meaning t.now) 0 table.old by.old }
+    ensures good { Good (T.meaning t.now) (length (T.meaning t.now).rules) table.new by.new }
+    ensures grown { Grown (AllKept (T.meaning t.now) table.old) table.old table.new result }
 {
     let mut rose = false;
     for r in 0..t.rules() {

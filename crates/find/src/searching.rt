@@ -15,10 +15,10 @@ pub(crate) fn search<T: RuleSystem>(
     by: &mut [usize],
     inside: &mut [bool],
 ) -> Option<usize>
-    requires good { Good (meaning t.now) 0 table.old by.old }
+    requires good { Good (T.meaning t.now) 0 table.old by.old }
     requires wide { length inside.old ≡ 320 }
     ensures low { (p : ℕ) → at table.new p ≤ 36771840 }
-    ensures searched { Searched (meaning t.now) table.new by.new inside.new result }
+    ensures searched { Searched (T.meaning t.now) table.new by.new inside.new result }
 {
     while round(t, table, by) {
         mark(table, inside);

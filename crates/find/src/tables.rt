@@ -44,7 +44,7 @@ fn write_found(answer: Found, table: &[u32], n: usize, minutes: &mut [i32])
 
 // Writes the least table that keeps every rule over the first of `minutes`, or says that there is none.
 pub fn find<T: RuleSystem>(t: &T, minutes: &mut [i32]) -> Result<Found, Refusal>
-    ensures { Finds (meaning t.now) minutes.old minutes.new result }
+    ensures { Finds (T.meaning t.now) minutes.old minutes.new result }
 {
     let n = t.places();
     if minutes.len() < n {

@@ -25,10 +25,10 @@ pub fn plan_and_run<T: RuleSystem>(
     outcomes: &[bool],
 ) -> Result<Outcome, AllocError>
     ensures { MatchResult result
-        (λ o. Promise requests.now (meaning system.now) outcomes.now
-        (record { minutes = minutes.entry.now; loops = loops.old; table = table.old })
-        (record { minutes = minutes.exit.now; loops = loops.new; table = table.new }) o)
-        (λ _. (minutes.exit.now ≡ minutes.entry.now) × (loops.new ≡ loops.old) × (table.new ≡ table.old)) }
+        (λ o. Promise requests.now (T.meaning system.now) outcomes.now
+        (record { minutes = minutes.old; loops = loops.old; table = table.old })
+        (record { minutes = minutes.new; loops = loops.new; table = table.new }) o)
+        (λ _. (minutes.new ≡ minutes.old) × (loops.new ≡ loops.old) × (table.new ≡ table.old)) }
 {
     let mut book = Book::new(heap)?;
     let mut sheet = RunSheet::new(heap)?;

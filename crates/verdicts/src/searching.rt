@@ -31,7 +31,7 @@ fn search_from<T: WithOrigins>(
     loops: &mut [Origin],
 ) -> Result<Explained, Refusal>
     requires within { from ≤ length table.old }
-    ensures { SearchFrom (T.RuleSystem.meaning system.now) (origins system.now) from
+    ensures { SearchFrom (T.meaning system.now) (T.origins system.now) from
         table.old table.new loops.old loops.new result }
 {
     find_or_loop(system, &mut table[from..], loops)

@@ -19,7 +19,7 @@ returns-in-Some g c =
     record { low = λ p. omega (arith, good.low p, sound.few_rules); searched = (bar, c.in-Some.ensures) }
 
 -- after a round that goes on, every number is low
-low_again : (g : _) (c : goal.In-default g) (p : ℕ) → at c.round.new.table p ≤ 1382400
+low_again : (g : _) (c : goal.In_default g) (p : ℕ) → at c.round.new.table p ≤ 1382400
 low_again g c p =
     let m = g.T.RuleSystem.meaning c.args.t.now in
     let sound = g.T.RuleSystem.sound c.args.t.now in

@@ -25,7 +25,7 @@ returns-in_err-first_job c =
     let q = c.piece_end-end.ensures in
     let stop = first_stop bytes first end p q four ks o l b k c.requires.kind c.find_job.result c.in_err-first_job.field-0.0
     c.find_job.ensures.value c.in_err-first_job.ensures in
-    let r = err_from_is_err_and c.from-residual.result c.from-residual.ensures.1 in
+    let r = err_from_is_err_and c.from_residual.result c.from_residual.ensures.1 in
     record { cases = rw (r.1, r.2) (record { says = stop; book = refl }) }
 
 pub piece_end-after-requires : goal.piece_end-after-requires
@@ -53,7 +53,7 @@ returns-in_err-second_job c =
     let stop = second_stop bytes first end p q four ks o l b k c.requires.kind c.in_ok-first_job.first_job c.find_job.result
     c.find_job.ensures.value c.in_ok-first_job.ensures c.piece_end-after.result c.piece_end-after.ensures
     c.find_job-2.result c.in_err-second_job.field-0.0 c.find_job-2.ensures.value c.in_err-second_job.ensures in
-    let r = err_from_is_err_and c.from-residual-in_err-second_job.result c.from-residual-in_err-second_job.ensures.1 in
+    let r = err_from_is_err_and c.from_residual-in_err-second_job.result c.from_residual-in_err-second_job.ensures.1 in
     record { cases = rw (r.1, r.2) (record { says = stop; book = refl }) }
 
 pub piece_end-close-requires : goal.piece_end-close-requires

@@ -23,7 +23,7 @@ returns-in_err-new_name c =
     let found = c.find_job-found.result in
     let stop = name_stop ks o l b bytes first end c.args.work c.requires.first c.piece_end-end.ensures c.requires.work found e
     c.find_job-found.ensures.value c.in_err-new_name.ensures in
-    let p = err_from_is_err_and c.from-residual.result c.from-residual.ensures.1 in
+    let p = err_from_is_err_and c.from_residual.result c.from_residual.ensures.1 in
     record { cases = rw (p.1, p.2) (record { says = stop; book = refl; noted = refl }) }
 
 pub returns-in_err-label : goal.returns-in_err-label
@@ -41,7 +41,7 @@ returns-in_err-label c =
     let found = c.find_job-found.result in
     let stop = label_stop ks o l b bytes first end c.args.work c.requires.first c.piece_end-end.ensures c.requires.work found e
     c.find_job-found.ensures.value c.in_ok-new_name.ensures (sym c.in_err-label.ensures) in
-    let p = err_from_is_err_and c.from-residual-in_err-label.result c.from-residual-in_err-label.ensures.1 in
+    let p = err_from_is_err_and c.from_residual-in_err-label.result c.from_residual-in_err-label.ensures.1 in
     record { cases = rw (p.1, p.2) (record { says = stop; book = refl; noted = refl }) }
 
 pub returns-in-Err : goal.returns-in-Err

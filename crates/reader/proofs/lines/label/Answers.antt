@@ -19,7 +19,7 @@ returns-in_err-label c =
     let w : List ℕ = take (end - at) (drop at bytes) in
     let stop = labelled_stop c.loop-at.label ks l b w (pieces_from 32 bytes (end + 1)) c.in_err-label.field-0.0
     (sym c.in_err-label.ensures) in
-    let p = err_from_is_err_and c.from-residual.result c.from-residual.ensures.1 in
+    let p = err_from_is_err_and c.from_residual.result c.from_residual.ensures.1 in
     p.1 ∙ (ap Err p.2 ∙ sym (sym c.loop-at.invariant.0 ∙ (ap (labelled c.loop-at.label ks l b) c.piece_end-end.ensures.is ∙ stop)))
 
 pub loop-at-preserved : goal.loop-at-preserved

@@ -16,7 +16,7 @@ returns-in_err-c c =
     let b = c.args.at in
     let signed = want_signed c.args.label ks l b w c.in-Some.s c.if-word-lt1.false (sym c.in-Some.ensures) in
     let judged = ap (λ o. named_as o l b name) (sym c.find_check-found.ensures.value) ∙ sym c.in_err-c.ensures in
-    let p = err_from_is_err_and c.from-residual.result c.from-residual.ensures.1 in
+    let p = err_from_is_err_and c.from_residual.result c.from_residual.ensures.1 in
     p.1 ∙ (ap Err p.2 ∙ sym (signed ∙ then_no _ _ c.in_err-c.field-0.0 judged))
 
 pub wanting-requires : goal.wanting-requires

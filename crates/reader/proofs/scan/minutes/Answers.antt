@@ -14,7 +14,7 @@ returns-then-word-ne45 c =
 
 pub returns-in_err-n-2 : goal.returns-in_err-n-2
 returns-in_err-n-2 c =
-    c.from-residual-in_err-n-2.ensures ∙ no_minutes c.args.word.now (omega arith) c.if-word-ne45.false c.in_err-n-2.ensures
+    c.from_residual-in_err-n-2.ensures ∙ no_minutes c.args.word.now (omega arith) c.if-word-ne45.false c.in_err-n-2.ensures
 
 pub returns-then-n-eq0 : goal.returns-then-n-eq0
 returns-then-n-eq0 c = zero_minutes c.args.word.now _ (omega arith) c.if-word-ne45.false c.in_ok-n-2.ensures c.if-n-eq0.true

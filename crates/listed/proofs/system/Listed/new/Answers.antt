@@ -11,7 +11,7 @@ invariant_of-result c =
     let sound : Sound (system_of c.args.places rows) = c.if-rows_sound.ensures.0 refl in
     let few : length rows ≤ 8192 = omega (arith, sound.few_rules, length-map rows rule_of) in
     let same : rows_of c.collected-table.result ≡ rows = c.collected-table.ensures ∙ take_all 8192 rows few in
-    (∣ subst (λ xs. Sound (system_of c.args.places xs)) (sym same) sound ∣₁, tt)
+    record { sound = ∣ subst (λ xs. Sound (system_of c.args.places xs)) (sym same) sound ∣₁ }
 
 pub returns-then-rows_sound : goal.returns-then-rows_sound
 returns-then-rows_sound c =

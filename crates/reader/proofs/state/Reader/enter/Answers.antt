@@ -60,13 +60,13 @@ bound-requires-in-Bounds-Most c =
     let w = most_word (take first bytes) (spelled (take first bytes) Most (c.in-Bounds-Most.ensures ∙ ap (λ k. word_of (take k bytes)) n)) in
     record { inside = omega (arith, t.lies.within, t.lies.short); first = c.piece_end-first.ensures; kind = w; stands = c.requires.stands }
 
-pub returns-in_ok-job : goal.returns-in_ok-job
-returns-in_ok-job c =
+pub returns-in_ok-job-in-Jobs-Job : goal.returns-in_ok-job-in-Jobs-Job
+returns-in_ok-job-in-Jobs-Job c =
     let t = c.in_ok-line.ensures.cases in
     let line = c.in_ok-line.line in
     let o = held c.args.book.now in
     let ns = c.args.names.now in
-    let j = c.in_ok-job.ensures.cases in
+    let j = c.in_ok-job-in-Jobs-Job.ensures.cases in
     let s = held_sound c.args.book.now in
     let section = sym c.in_ok-line.ensures.section ∙ c.in-Jobs-Job.is-0 in
     let due : length o.jobs + c.in-Jobs-Job.k ≤ length ns + 1 = subst (λ x. Due (length ns) x (length o.jobs)) section c.requires.due in
@@ -82,13 +82,13 @@ returns-in_ok-job c =
       };
     }
 
-pub returns-in_ok-job-2 : goal.returns-in_ok-job-2
-returns-in_ok-job-2 c =
+pub returns-in_ok-job-in-Jobs-Check : goal.returns-in_ok-job-in-Jobs-Check
+returns-in_ok-job-in-Jobs-Check c =
     let t = c.in_ok-line.ensures.cases in
     let line = c.in_ok-line.line in
     let o = held c.args.book.now in
     let ns = c.args.names.now in
-    let j = c.in_ok-job-2.ensures.cases in
+    let j = c.in_ok-job-in-Jobs-Check.ensures.cases in
     let s = held_sound c.args.book.now in
     let section = sym c.in_ok-line.ensures.section ∙ c.in-Jobs-Check.is-0 in
     let due : length o.jobs + c.in-Jobs-Check.k ≤ length ns + 1 = subst (λ x. Due (length ns) x (length o.jobs)) section c.requires.due in
@@ -104,13 +104,13 @@ returns-in_ok-job-2 c =
       };
     }
 
-pub returns-in_ok-bound : goal.returns-in_ok-bound
-returns-in_ok-bound c =
+pub returns-in_ok-bound-in-Bounds-Least : goal.returns-in_ok-bound-in-Bounds-Least
+returns-in_ok-bound-in-Bounds-Least c =
     let t = c.in_ok-line.ensures.cases in
     let line = c.in_ok-line.line in
     let o = held c.args.book.now in
     let ns = c.args.names.now in
-    let j = c.in_ok-bound.ensures.cases in
+    let j = c.in_ok-bound-in-Bounds-Least.ensures.cases in
     record {
       cases = record {
         text = c.in_ok-line.ensures.text;
@@ -121,13 +121,13 @@ returns-in_ok-bound c =
       };
     }
 
-pub returns-in_ok-bound-2 : goal.returns-in_ok-bound-2
-returns-in_ok-bound-2 c =
+pub returns-in_ok-bound-in-Bounds-Most : goal.returns-in_ok-bound-in-Bounds-Most
+returns-in_ok-bound-in-Bounds-Most c =
     let t = c.in_ok-line.ensures.cases in
     let line = c.in_ok-line.line in
     let o = held c.args.book.now in
     let ns = c.args.names.now in
-    let j = c.in_ok-bound-2.ensures.cases in
+    let j = c.in_ok-bound-in-Bounds-Most.ensures.cases in
     record {
       cases = record {
         text = c.in_ok-line.ensures.text;

@@ -20,7 +20,7 @@ invariant_of-result c =
     let places = ap₂ ◌*◌ c.cases.ensures (ap (λ (js : List Job). length js) c.jobs.ensures) in
     let made = dynamic_made b sound c.new-table.result c.add_cases.new.out c.add_unknown.new.out
     (c.cases.result * length c.jobs.result.now) c.new-table.ensures c.add_cases.ensures c.add_unknown.ensures places in
-    (∣ subst Sound (sym made) (systems_sound b sound).2 ∣₁, tt)
+    record { sound = ∣ subst Sound (sym made) (systems_sound b sound).2 ∣₁ }
 
 pub returns : goal.returns
 returns c =
