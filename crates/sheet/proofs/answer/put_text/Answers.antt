@@ -16,9 +16,9 @@ slice_bounds-places-end c =
     search rules
 
 pub returns-in-Ok : goal.returns-in-Ok
-returns-in-Ok c = let p = c.in_ok-put_plan.ensures in (p.0, inr (held c.read.new.book, _, p.1), p.2, p.3)
+returns-in-Ok c = let p = c.in_ok-put_plan-in-Ok.ensures in (p.0, inr (held c.read.new.book, _, p.1), p.2, p.3)
 
 pub returns-in-Fault : goal.returns-in-Fault
 returns-in-Fault c =
     let f = c.in-Fault.fault in
-    (fault_line f, inl (f, refl), c.in_ok-put_fault.ensures.short, c.in_ok-put_fault.ensures.put)
+    (fault_line f, inl (f, refl), c.in_ok-put_fault-in-Fault.ensures.short, c.in_ok-put_fault-in-Fault.ensures.put)

@@ -14,8 +14,8 @@ put_table-requires c =
     let few : cases b ≤ 16 = few_cases b sound in
     rw (c.jobs-jobs.ensures, c.cases.ensures) (record { named = c.requires.named; few = sound.few_jobs; below = few; enough = c.requires.enough })
 
-pub returns-in_ok-put_table : goal.returns-in_ok-put_table
-returns-in_ok-put_table c =
+pub returns-in_ok-put_table-in-Some : goal.returns-in_ok-put_table-in-Some
+returns-in_ok-put_table-in-Some c =
     let b = held c.args.book.now in
     let name = name_of c.args.text.now c.args.places.now in
     let minutes = c.args.minutes.now in
@@ -23,12 +23,12 @@ returns-in_ok-put_table c =
     let table = ap₂ (λ k n. table_lines c.in-Some.grade name k minutes n) (ap length c.jobs-jobs.ensures) c.cases.ensures in
     let same = table ∙ ap (λ o. rest_lines b name o minutes c.args.case c.args.origins.now) chosen in
     record {
-      put = c.in_ok-put_table.ensures.put ∙ ap (λ t. vec_items c.args.page.now ++ t) same;
-      short = subst (λ t. length t ≤ 6679) same c.in_ok-put_table.ensures.short;
+      put = c.in_ok-put_table-in-Some.ensures.put ∙ ap (λ t. vec_items c.args.page.now ++ t) same;
+      short = subst (λ t. length t ≤ 6679) same c.in_ok-put_table-in-Some.ensures.short;
     }
 
-pub returns-in_ok-put_loop : goal.returns-in_ok-put_loop
-returns-in_ok-put_loop c =
+pub returns-in_ok-put_loop-in-None : goal.returns-in_ok-put_loop-in-None
+returns-in_ok-put_loop-in-None c =
     let b = held c.args.book.now in
     let name = name_of c.args.text.now c.args.places.now in
     let origins = c.args.origins.now in
@@ -37,6 +37,6 @@ returns-in_ok-put_loop c =
     let chosen : ◌≡◌ {A = Option Grade} None c.args.grade = cc c.in-None.is in
     let same = ap (λ o. rest_lines b name o c.args.minutes.now c.args.case origins) chosen in
     record {
-      put = c.in_ok-put_loop.ensures ∙ ap (λ t. vec_items c.args.page.now ++ t) same;
+      put = c.in_ok-put_loop-in-None.ensures ∙ ap (λ t. vec_items c.args.page.now ++ t) same;
       short = subst (λ t. length t ≤ 6679) same (omega (arith, fits));
     }

@@ -26,22 +26,17 @@ invariant_of-self c =
     let e = Reported c.args.report in
     let more = one_more s.places s.count e (omega arith) in
     let shifted = one_shl c.args.report.check 8 c.requires.low in
-    let mark : c.if-report.mark ≡ cond c.args.report.yes (2 ^ c.args.report.check) 0 = grind arith in (
-      length-set s.places s.count e ∙ z,
-      (
-        omega arith,
-        (
-          s.early,
-          (
-            marked s.heard _ c.args.report.check c.requires.low s.heard_is ∙ sym (ap heard_set more),
-            (
-              ap (λ x. bit_or x c.if-report.mark) s.yes_is ∙ (ap (λ x. bit_or (yes_set (newest s.count s.places)) x) mark ∙ sym (ap yes_set more)),
-              (s.just_is ∙ sym (ap just_told more), (s.told_is ∙ sym (ap all_told more), (s.time_is ∙ sym (ap time more), tt))),
-            ),
-          ),
-        ),
-      ),
-    )
+    let mark : c.if-report.mark ≡ cond c.args.report.yes (2 ^ c.args.report.check) 0 = grind arith in
+    record {
+      sized = length-set s.places s.count e ∙ z;
+      few = omega arith;
+      early = s.early;
+      heard_is = marked s.heard _ c.args.report.check c.requires.low s.heard_is ∙ sym (ap heard_set more);
+      yes_is = ap (λ x. bit_or x c.if-report.mark) s.yes_is ∙ (ap (λ x. bit_or (yes_set (newest s.count s.places)) x) mark ∙ sym (ap yes_set more));
+      just_is = s.just_is ∙ sym (ap just_told more);
+      told_is = s.told_is ∙ sym (ap all_told more);
+      time_is = s.time_is ∙ sym (ap time more);
+    }
 
 pub returns : goal.returns
 returns c =

@@ -22,25 +22,17 @@ invariant_of-self c =
     let l = length_newest s.places s.count (omega arith) in
     let r = c.requires.room in
     let e = Told c.args.telling in
-    let more = one_more s.places s.count e (omega arith) in (
-      length-set s.places s.count e ∙ z,
-      (
-        omega arith,
-        (
-          search rules,
-          (
-            s.heard_is ∙ sym (ap heard_set more),
-            (
-              s.yes_is ∙ sym (ap yes_set more),
-              (
-                sym (ap just_told more),
-                (ap (λ x. bit_or c.args.telling.jobs x) s.told_is ∙ sym (ap all_told more), (sym (ap time more), tt)),
-              ),
-            ),
-          ),
-        ),
-      ),
-    )
+    let more = one_more s.places s.count e (omega arith) in
+    record {
+      sized = length-set s.places s.count e ∙ z;
+      few = omega arith;
+      early = search rules;
+      heard_is = s.heard_is ∙ sym (ap heard_set more);
+      yes_is = s.yes_is ∙ sym (ap yes_set more);
+      just_is = sym (ap just_told more);
+      told_is = ap (λ x. bit_or c.args.telling.jobs x) s.told_is ∙ sym (ap all_told more);
+      time_is = sym (ap time more);
+    }
 
 pub returns : goal.returns
 returns c =

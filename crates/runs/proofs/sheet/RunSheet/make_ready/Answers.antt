@@ -6,4 +6,4 @@ use Rattle.runs.proofs.sheet.RunSheet.make_ready.Goals as goal
 pub invariant_of-self : goal.invariant_of-self
 invariant_of-self c =
     let r = subst (λ (p : Plain). Ready p c.fill.new.minutes) (sym c.copy_from.ensures) c.in-Yes.ensures in
-    (search rules, (r.shown, (∣ r.earliest ∣₁, tt)))
+    record { sized = search rules; shown = r.shown; earliest = ∣ r.earliest ∣₁ }

@@ -15,7 +15,7 @@ ready b zeros e z =
 pub invariant_of-result : goal.invariant_of-result
 invariant_of-result c =
     let r = ready c.in_ok-book.book c.zeros.result c.in_ok-book.ensures c.zeros.ensures in
-    (ap length c.zeros.ensures, (r.shown, (∣ r.earliest ∣₁, tt)))
+    record { sized = ap length c.zeros.ensures; shown = r.shown; earliest = ∣ r.earliest ∣₁ }
 
 pub returns : goal.returns
 returns c =

@@ -14,7 +14,7 @@ pub invariant_of-result : goal.invariant_of-result
 invariant_of-result c =
     let b = plan c.args.self.now in
     let law = subst (λ (l : List Event). ∥ Lawful b (times c.args.self.now) l ∥₁) (sym c.new.ensures) ∣ tt ∣₁ in
-    (law, (subst (λ (l : List Event). ∥ NoneAwaited b l ∥₁) (sym c.new.ensures) ∣ idle b ∣₁, tt))
+    record { law = law; idle = subst (λ (l : List Event). ∥ NoneAwaited b l ∥₁) (sym c.new.ensures) ∣ idle b ∣₁ }
 
 pub returns : goal.returns
 returns c =

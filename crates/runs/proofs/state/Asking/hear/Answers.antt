@@ -32,14 +32,14 @@ invariant_of-result c =
     let r = c.args.self in
     let sheet = r.sheet.now in
     let l = subst (λ (es : List Event). Lawful (plan sheet) (times sheet) es) (sym c.report.ensures) (hears r c.args.report c.requires.asked) in
-    (∣ l ∣₁, (∣ none_next sheet c.report.new.self c.in-None.ensures ∣₁, tt))
+    record { law = ∣ l ∣₁; idle = ∣ none_next sheet c.report.new.self c.in-None.ensures ∣₁ }
 
 pub invariant_of-result-in-Some : goal.invariant_of-result-in-Some
 invariant_of-result-in-Some c =
     let r = c.args.self in
     let sheet = r.sheet.now in
     let l = subst (λ (es : List Event). Lawful (plan sheet) (times sheet) es) (sym c.report.ensures) (hears r c.args.report c.requires.asked) in
-    (∣ l ∣₁, (∣ asked_next sheet c.report.new.self c.in-Some.check c.in-Some.ensures ∣₁, tt))
+    record { law = ∣ l ∣₁; asks = ∣ asked_next sheet c.report.new.self c.in-Some.check c.in-Some.ensures ∣₁ }
 
 pub returns-in-None : goal.returns-in-None
 returns-in-None c =

@@ -27,7 +27,7 @@ ends r next e o =
     ended r.sheet.now r.log r.law r.idle (opens (leading r.sheet.now r.log r.law))
 
 pub invariant_of-result : goal.invariant_of-result
-invariant_of-result c = (c.args.self.law, (∣ ends c.args.self c.args.next c.in-None.is c.requires.next ∣₁, tt))
+invariant_of-result c = record { law = c.args.self.law; over = ∣ ends c.args.self c.args.next c.in-None.is c.requires.next ∣₁ }
 
 pub tell-requires : goal.tell-requires
 tell-requires c =
@@ -41,7 +41,7 @@ invariant_of-result-in-None-lowest_sought c =
     let sheet = r.sheet.now in
     let l = tells r c.args.next c.in-Some.telling c.in-Some.is c.requires.next in
     let law = subst (λ (es : List Event). Lawful (plan sheet) (times sheet) es) (sym c.tell.ensures) l in
-    (∣ law ∣₁, (∣ none_next sheet c.tell.new.self c.in-None-lowest_sought.ensures ∣₁, tt))
+    record { law = ∣ law ∣₁; idle = ∣ none_next sheet c.tell.new.self c.in-None-lowest_sought.ensures ∣₁ }
 
 pub invariant_of-result-in-Some-lowest_sought : goal.invariant_of-result-in-Some-lowest_sought
 invariant_of-result-in-Some-lowest_sought c =
@@ -50,7 +50,7 @@ invariant_of-result-in-Some-lowest_sought c =
     let l = tells r c.args.next c.in-Some.telling c.in-Some.is c.requires.next in
     let law = subst (λ (es : List Event). Lawful (plan sheet) (times sheet) es) (sym c.tell.ensures) l in
     let check = c.in-Some-lowest_sought.check in
-    (∣ law ∣₁, (∣ asked_next sheet c.tell.new.self check c.in-Some-lowest_sought.ensures ∣₁, tt))
+    record { law = ∣ law ∣₁; asks = ∣ asked_next sheet c.tell.new.self check c.in-Some-lowest_sought.ensures ∣₁ }
 
 pub returns-in-None : goal.returns-in-None
 returns-in-None c =
