@@ -1,4 +1,6 @@
 // What the planner replied, as lines of text.
+#![tactic(auto)]
+
 ghost use Rattle.std.specs.Prelude.{◌≡◌, IfOk, string_bytes};
 ghost use Rattle.account.specs.Lines.{answer_line, strong_said, strong_line, weak_said, weak_line, dynamic_said, dynamic_line, reply_line};
 

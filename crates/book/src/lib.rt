@@ -1,4 +1,6 @@
 // The plan book: jobs, checks and bounds, as a crew writes them down.
+#![tactic(auto)]
+
 pub mod calls;
 mod copying;
 mod jobs;

@@ -1,3 +1,5 @@
+#![tactic(auto)]
+
 // The book, tried on lists of calls.
 #[cfg(test)]
 mod tests {

@@ -1,4 +1,6 @@
 // Reads a plan text from standard input and the outcomes of its checks from the arguments, and leads a crew through the run on standard output.
+#![tactic(auto)]
+
 ghost use Rattle.std.specs.Prelude.{◌≤◌, IfOk};
 
 use crew_text::lead::lead;

@@ -1,4 +1,6 @@
 // Serves a list of requests on a new book, searches a small rule system, and walks a run of the plan; prints what was answered.
+#![tactic(auto)]
+
 use account::reply_line;
 use anyhow::anyhow;
 use book::parts::{Bound, Call, Kind, Label};

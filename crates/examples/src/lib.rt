@@ -1,4 +1,6 @@
 // The worked examples: what the definitions say of a new book and of the plan for a hole that may be wet.
+#![tactic(auto)]
+
 ghost use Rattle.examples.specs.Worked.{Worked};
 
 // Every worked example follows from the definitions.

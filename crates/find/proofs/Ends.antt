@@ -1,5 +1,5 @@
 -- How a search ends: with the least table, or with places that bar each other.
-use Rattle.std.proofs.Common.{◌≡◌, ℕ, ◌+◌, ◌≤◌, Bool, List, ◌++◌, map, length, take, drop, ℤ, pos, Some, None, Ok, Option, arith}
+use Rattle.std.proofs.Common.{◌≡◌, ℕ, ◌≤◌, Bool, List, ◌++◌, map, length, take, drop, ℤ, pos, Some, None, Ok, Option, arith}
 use Rattle.rules.specs.Rules.{System, Sound, NoneKeeps, at}
 use Rattle.rules.specs.Search.{Searched, Barred, In}
 use Rattle.rules.proofs.Steps.{ends}

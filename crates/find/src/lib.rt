@@ -1,4 +1,6 @@
 // The least table that keeps the rules of a rule system, or that there is none, and a loop of rules that shows why.
+#![tactic(auto)]
+
 mod answers;
 mod asking;
 mod loops;

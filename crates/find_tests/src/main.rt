@@ -1,4 +1,6 @@
 // Small rule systems, and what `find` and `find_or_loop` answer of each.
+#![tactic(auto)]
+
 use find::{Explained, Found, Refusal, find, find_or_loop};
 use listed::Listed;
 use rules::parts::Origin;

@@ -1,13 +1,13 @@
 -- The writing-out of a well-formed plan that the book takes is read as that plan.
-use Rattle.std.proofs.Common.{◌≡◌, ℕ, zero, suc, ◌+◌, ◌<◌, ◌≤◌, leb, List, [], ◌∷◌, ◌++◌, map, length, Ok, Err, codes, decimal, Result, sym, refl, ap, ◌∙◌, subst, arith}
+use Rattle.std.proofs.Common.{◌≡◌, ℕ, suc, ◌+◌, ◌≤◌, List, [], ◌∷◌, ◌++◌, map, length, Ok, codes, decimal, Result, refl, ap, ◌∙◌, arith}
 use Rattle.std.specs.Fmt.{signed_decimal}
 use Rattle.std.proofs.lemmas.Bool.{le-leb}
 use Rattle.book.specs.Plain.{Plain}
 use Rattle.format.specs.declared.parts.Fault.{Fault}
-use Rattle.format.specs.Format.{JobLine, BoundLine, PlanText, Known, Every, GoodJob, GoodJobs, GoodBound, WellFormed, at_first, after, after_all}
+use Rattle.format.specs.Format.{JobLine, BoundLine, PlanText, Known, Every, GoodJob, GoodJobs, GoodBound, WellFormed, at_first, after_all}
 use Rattle.format.specs.Format.{want_word, job_words, bound_words, count_words, plan_lines, spaced, written}
-use Rattle.format.specs.Entered.{call_job, call_bound, book_after_jobs, Accepts, TakesJobs, TakesBounds, BookTakes}
-use Rattle.format.specs.Faults.{then, cut, Rest, Past, line_in, a_line, count_of, jobs_count, job_line, bound_line, job_of, bound_of}
+use Rattle.format.specs.Entered.{call_job, call_bound, book_after_jobs, Accepts, TakesJobs, TakesBounds}
+use Rattle.format.specs.Faults.{cut, Rest, Past, line_in, a_line, count_of, jobs_count, job_line, bound_line, job_of, bound_of}
 use Rattle.format.specs.Faults.{Reading, nothing_read, with_job_line, with_bound_line, at_end, from_bounds, from_jobs, from_top, outcome}
 use Rattle.format.specs.Theorems.{reading_of, Writes}
 use Rattle.format.proofs.Steps.{then_is, booked_is}

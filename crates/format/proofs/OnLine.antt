@@ -1,11 +1,11 @@
 -- The faults of a line's words, and of the book, are on that line.
-use Rattle.std.proofs.Common.{◌≡◌, ℕ, ◌+◌, Bool, true, false, cond, eqb, leb, List, [], ◌∷◌, length, Some, None, Ok, Err, codes, Option, Result, sym, refl, ap, ◌∙◌}
+use Rattle.std.proofs.Common.{◌≡◌, ℕ, ◌+◌, Bool, true, false, cond, leb, List, [], ◌∷◌, length, Some, None, Ok, Err, codes, Option, Result, sym, refl, ap, ◌∙◌}
 use Rattle.book.specs.declared.parts.Refusal.{Refusal}
 use Rattle.book.specs.Plain.{Plain}
 use Rattle.format.specs.declared.parts.FileFault.{FileFault}
 use Rattle.format.specs.declared.parts.FileFault.TheVariants.{WrongLine, NotANumber, BadName, NameTaken, NameReserved, UnknownName, NamesShort}
 use Rattle.format.specs.declared.parts.Fault.{Fault}
-use Rattle.format.specs.Format.{Known, Want, same, job_number, check_number, reserved_words}
+use Rattle.format.specs.Format.{Known, same, job_number, check_number, reserved_words}
 use Rattle.format.specs.Entered.{call_job, call_bound}
 use Rattle.format.specs.Faults.{fault_at, fault, then, given, booked, unless_taken, among, name_form, work_of, kind_of, sign_of, new_name, job_named}
 use Rattle.format.specs.Faults.{check_named}

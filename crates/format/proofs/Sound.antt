@@ -1,14 +1,14 @@
 -- What is read is well formed, the book takes it, and its writing-out is the text.
-use Rattle.std.proofs.Common.{◌≡◌, ℕ, zero, suc, ◌+◌, ◌<◌, ◌≤◌, leb, List, [], ◌∷◌, ◌++◌, map, length, Ok, Err, codes, Result, sym, refl, ap, ◌∙◌, subst, append_assoc, append-nil, arith}
+use Rattle.std.proofs.Common.{◌≡◌, ℕ, zero, suc, ◌+◌, ◌≤◌, leb, List, [], ◌∷◌, ◌++◌, map, length, Ok, codes, Result, sym, refl, ap, ◌∙◌, subst, append_assoc, append-nil}
 use Rattle.std.proofs.lemmas.Bool.{leb-true}
-use Rattle.book.specs.Plain.{Plain, new_book}
+use Rattle.book.specs.Plain.{Plain}
 use Rattle.format.specs.declared.parts.FileFault.TheVariants.{TooLong, Unfinished, Trailing, NamesShort}
 use Rattle.format.specs.declared.parts.Fault.{Fault}
-use Rattle.format.specs.Format.{JobLine, BoundLine, PlanText, Known, Every, GoodJob, GoodJobs, GoodBound, WellFormed, at_first, after, after_all}
-use Rattle.format.specs.Format.{job_words, bound_words, count_words, plan_lines, spaced, written}
-use Rattle.format.specs.Entered.{call_job, call_bound, book_after_jobs, book_after_bounds, Accepts, TakesJobs, TakesBounds, BookTakes, book_of}
-use Rattle.format.specs.Faults.{fault_at, then, cut, Rest, Past, line_in, a_line, count_of, jobs_count, job_line, bound_line, job_of, bound_of}
-use Rattle.format.specs.Faults.{Reading, nothing_read, with_job_line, with_bound_line, at_end, from_bounds, from_jobs, from_top, outcome}
+use Rattle.format.specs.Format.{JobLine, BoundLine, PlanText, Known, Every, GoodJob, GoodJobs, GoodBound, after_all}
+use Rattle.format.specs.Format.{job_words, bound_words, count_words, plan_lines, spaced}
+use Rattle.format.specs.Entered.{call_job, call_bound, book_after_jobs, book_after_bounds, Accepts, TakesJobs, TakesBounds}
+use Rattle.format.specs.Faults.{fault_at, cut, Rest, Past, line_in, a_line, count_of, jobs_count, job_line, bound_line, job_of, bound_of}
+use Rattle.format.specs.Faults.{Reading, nothing_read, with_job_line, with_bound_line, at_end, from_bounds, from_jobs, outcome}
 use Rattle.format.specs.Theorems.{reading_of, Writes}
 use Rattle.format.proofs.Steps.{no_fault, same_ok, then_ok, booked_ok, passed}
 use Rattle.format.proofs.Cuts.{spaced_cut, ended_cut}

@@ -1,5 +1,5 @@
 -- Steps that give no fault.
-use Rattle.std.proofs.Common.{◌≡◌, ℕ, Bool, true, false, cond, ◌⊎◌, Some, None, Ok, Err, Option, Result, sym, refl, ap, ◌∙◌, inl, inr, arith}
+use Rattle.std.proofs.Common.{◌≡◌, ℕ, Bool, true, false, cond, ◌⊎◌, Some, None, Ok, Err, Option, Result, refl, ap, inl, inr, arith}
 use Rattle.book.specs.declared.parts.Refusal.{Refusal}
 use Rattle.format.specs.declared.parts.Fault.{Fault}
 use Rattle.format.specs.Entered.{Accepts}

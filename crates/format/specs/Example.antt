@@ -1,7 +1,6 @@
 -- Each fault of the file, met by a short text.
-use Rattle.std.specs.Prelude.{◌≡◌, ℕ, List, [], ◌∷◌, Err, codes}
+use Rattle.std.specs.Prelude.{◌≡◌, Err, codes}
 use Rattle.book.specs.declared.parts.Refusal.TheVariants.{BothWays}
-use Rattle.format.specs.declared.parts.FileFault.{FileFault}
 use Rattle.format.specs.declared.parts.FileFault.TheVariants.{Unfinished, WrongLine, NotANumber, BadName, NameTaken, NameReserved, UnknownName}
 use Rattle.format.specs.declared.parts.FileFault.TheVariants.{Trailing, NamesShort}
 use Rattle.format.specs.declared.parts.Reason.TheVariants.{Book}

@@ -1,3 +1,5 @@
 // The plan file: what a plan text is, and what a text gives, line by line.
+#![tactic(auto)]
+
 pub mod parts;
 pub mod theorems;

@@ -1,5 +1,5 @@
 -- The three systems are rule systems: few places, rules and alternatives, and no more minutes than a bound may have.
-use Rattle.std.proofs.Common.{ℕ, zero, suc, ◌+◌, ◌*◌, ◌<◌, ◌≤◌, Bool, true, false, not, eqb, List, [], ◌∷◌, ◌++◌, map, length, ℤ, pos, neg_ℤ, ◌≤ℤ◌, mul-le-mul_right, suc-mul, arith, length-append, pow_mono}
+use Rattle.std.proofs.Common.{ℕ, zero, suc, ◌*◌, ◌<◌, ◌≤◌, Bool, true, false, not, eqb, List, [], ◌∷◌, ◌++◌, map, length, ℤ, pos, neg_ℤ, ◌≤ℤ◌, mul-le-mul_right, suc-mul, arith, length-append, pow_mono}
 use lib.Arith.{digits_lt}
 use lib.ListN.{length-map}
 use Rattle.std.proofs.lemmas.Nat.{pow_pos}

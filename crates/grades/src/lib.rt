@@ -1,4 +1,6 @@
 // The tables that keep the rules of a plan are its strategies: each theorem is named by a call's contract.
+#![tactic(auto)]
+
 pub mod holds;
 
 ghost use Rattle.grades.specs.Theorems.{StrongTables, WeakTables, DynamicTables, GradesInOrder, SystemsSound, RunsAlike};

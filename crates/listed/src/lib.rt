@@ -1,4 +1,6 @@
 // A small rule system, made from a list of rows: for tests.
+#![tactic(auto)]
+
 mod listing;
 mod sound;
 mod system;

@@ -1,4 +1,6 @@
 // Reads a plan text from standard input and writes its sheet to standard output.
+#![tactic(auto)]
+
 ghost use Rattle.std.specs.Prelude.{◌≤◌, IfOk};
 
 use sheet::answer::answer;

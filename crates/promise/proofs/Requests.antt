@@ -1,11 +1,11 @@
 -- Lists of requests: one request more, and the book that they leave.
 use Rattle.std.proofs.Common.{◌≡◌, ℕ, ◌+◌, ◌<◌, ◌≤◌, List, [], ◌∷◌, ◌++◌, length, get_or, take, sym, refl, ap, ◌∙◌, subst}
 use Rattle.std.proofs.lemmas.List.{take_more, take_all}
-use Rattle.book.specs.Fed.{fed_one, fed_from}
+use Rattle.book.specs.Fed.{fed_from}
 use Rattle.promise.specs.declared.parts.Request.{Request}
 use Rattle.promise.specs.declared.parts.Request.TheVariants.{Book, Strong, Weak, Dynamic}
 use Rattle.promise.specs.declared.parts.Reply.{Reply}
-use Rattle.promise.specs.Serving.{Desk, desk, Served, AllServed, calls_among}
+use Rattle.promise.specs.Serving.{Desk, Served, AllServed, calls_among}
 
 -- one request more
 pub served_push : (d : Desk) (qs : List Request) (rs : List Reply) (e : Desk) (q : Request) (r : Reply) (f : Desk) →

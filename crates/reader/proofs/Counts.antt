@@ -1,5 +1,5 @@
 -- Lines that hold a count.
-use Rattle.std.proofs.Common.{◌≡◌, ℕ, ◌+◌, ◌-◌, ◌<◌, ◌≤◌, List, [], ◌∷◌, length, take, drop, Option, Result, sym, refl, ap, ◌∙◌, subst, arith}
+use Rattle.std.proofs.Common.{◌≡◌, ℕ, ◌+◌, List, [], ◌∷◌, length, Option, refl}
 use Rattle.format.specs.declared.parts.FileFault.TheVariants.{NotANumber}
 use Rattle.format.specs.Faults.{fault_at, given, natural_of, count_of}
 use Rattle.format.proofs.Words.{same_decides}

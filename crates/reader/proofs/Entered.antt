@@ -1,20 +1,19 @@
 -- The book and the name list after a line.
-use Rattle.std.proofs.Common.{◌≡◌, ℕ, zero, suc, ◌+◌, ◌-◌, ◌<◌, ◌≤◌, ◌⊎◌, List, [], ◌∷◌, ◌++◌, length, get_or, take, drop, set, Some, None, Ok, Err, Option, Result, sym, refl, ap, ◌∙◌, subst, inl, inr, ⊎_elim, arith}
+use Rattle.std.proofs.Common.{◌≡◌, ℕ, ◌+◌, ◌-◌, ◌<◌, ◌≤◌, List, [], ◌∷◌, ◌++◌, length, take, Some, None, Ok, Option, sym, refl, ap, ◌∙◌, subst, ⊎_elim, arith}
 use Rattle.std.proofs.lemmas.List.{take_more_set, length_push, length-set, get_or_append_left, get_or_push, length-take-le}
 use Rattle.std.proofs.lemmas.Bool.{cases_lt}
 use Rattle.book.specs.declared.parts.Job.{Job}
 use Rattle.book.specs.declared.parts.Label.{Label}
 use Rattle.book.specs.declared.parts.Refusal.{Refusal}
-use Rattle.book.specs.Plain.{Plain, Outcome, unless, job_refusal, check_refusal, bound_refusal, add_bound, checks, with_job, with_bound, new_book}
+use Rattle.book.specs.Plain.{Plain, unless, job_refusal, check_refusal, bound_refusal, add_bound, checks, with_job, with_bound, new_book}
 use Rattle.book.specs.declared.parts.Bound.{Bound}
 use Rattle.book.specs.Sound.{Sound}
 use Rattle.format.specs.declared.parts.Work.{Work}
 use Rattle.format.specs.declared.parts.Work.TheVariants.{Job as JobWork, Check as CheckWork}
 use Rattle.format.specs.declared.parts.NamePlace.{NamePlace}
-use Rattle.format.specs.declared.parts.Fault.{Fault}
 use Rattle.format.specs.Format.{Known, JobLine, BoundLine, numbered}
 use Rattle.format.specs.Entered.{Accepts, add, call_job, call_bound, label_in, bound_in}
-use Rattle.format.specs.Faults.{cut, then, booked, job_line, bound_line, job_of, bound_of}
+use Rattle.format.specs.Faults.{cut, job_line, bound_line, job_of, bound_of}
 use Rattle.format.proofs.Steps.{then_ok, booked_ok}
 use Rattle.reader.specs.Names.{no_place, Placed, known_places, known_by, Stands}
 use Rattle.reader.specs.Entering.{JobEntered, BoundEntered}

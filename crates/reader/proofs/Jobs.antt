@@ -1,25 +1,23 @@
 -- A job line, by the places of its words.
-use Rattle.std.proofs.Common.{◌≡◌, ℕ, ◌+◌, ◌-◌, ◌<◌, ◌≤◌, List, [], ◌∷◌, length, take, drop, Some, None, Ok, Err, Option, Result, sym, refl, ap, ◌∙◌, subst, arith}
+use Rattle.std.proofs.Common.{◌≡◌, ℕ, ◌+◌, ◌-◌, ◌≤◌, List, [], ◌∷◌, length, take, drop, Some, None, Ok, Err, Option, Result, sym, refl, ap, ◌∙◌, arith}
 use Rattle.std.proofs.lemmas.List.{length-take-le, length-drop, drop-take, drop-drop, take-take}
 use Rattle.book.specs.declared.parts.Label.{Label}
 use Rattle.book.specs.declared.parts.Refusal.{Refusal}
-use Rattle.book.specs.Plain.{Plain, Outcome, empty_label, unless, job_refusal, check_refusal, bound_refusal, add_bound}
+use Rattle.book.specs.Plain.{Plain, empty_label, unless, job_refusal, check_refusal, bound_refusal, add_bound}
 use Rattle.book.specs.declared.parts.Bound.{Bound}
 use Rattle.format.specs.declared.parts.Work.{Work}
 use Rattle.format.specs.declared.parts.Work.TheVariants.{Job, Check}
 use Rattle.format.specs.declared.parts.Reason.{Reason}
 use Rattle.format.specs.declared.parts.Reason.TheVariants.{Book}
 use Rattle.format.specs.declared.parts.Fault.{Fault}
-use Rattle.format.specs.declared.parts.NamePlace.{NamePlace}
 use Rattle.format.specs.Format.{Known, JobLine, job_number}
 use Rattle.format.specs.Entered.{add, call_job}
 use Rattle.format.specs.Faults.{cut, booked, work_of, new_as, new_name, job_of, line_name, if_work}
 use Rattle.reader.specs.Pieces.{Piece, pieces_from}
-use Rattle.reader.specs.Names.{slice}
 use Rattle.reader.specs.Says.{labelled, in_book}
 use Rattle.reader.specs.Entering.{Lies}
 use Rattle.reader.proofs.Pieces.{first_piece}
-use Rattle.reader.proofs.Saying.{job_named_stop, job_label_stop, JobSaid, job_said}
+use Rattle.reader.proofs.Saying.{job_named_stop, job_label_stop, job_said}
 
 -- the bytes between two places
 abbrev pub part : List ℕ → ℕ → ℕ → List ℕ

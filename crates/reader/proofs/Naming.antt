@@ -1,11 +1,11 @@
 -- Names by their places, and the jobs known by them.
-use Rattle.std.proofs.Common.{◌≡◌, ℕ, zero, suc, ◌+◌, ◌-◌, ◌<◌, ◌≤◌, Bool, true, false, cond, List, [], ◌∷◌, ◌++◌, length, get_or, take, drop, Some, None, codes, Decides, Option, sym, refl, ap, ◌∙◌, subst, arith}
+use Rattle.std.proofs.Common.{◌≡◌, ℕ, zero, suc, ◌+◌, ◌-◌, ◌<◌, ◌≤◌, Bool, true, false, cond, List, [], ◌∷◌, length, get_or, drop, Some, None, codes, Decides, Option, sym, refl, ap, ◌∙◌, arith}
 use Rattle.std.proofs.lemmas.List.{at_drop_more, length-drop, get_or-drop, length-take-le}
 use Rattle.book.specs.declared.parts.Job.{Job}
 use Rattle.book.specs.Plain.{Plain, job, no_job}
 use Rattle.book.specs.Sound.{Sound}
 use Rattle.format.specs.declared.parts.NamePlace.{NamePlace}
-use Rattle.format.specs.Format.{Known, start_known, same, job_from, job_number}
+use Rattle.format.specs.Format.{start_known, same, job_from, job_number}
 use Rattle.format.proofs.Steps.{no_value, same_some}
 use Rattle.reader.specs.Names.{slice, no_place, place_from, number_among, named, known_in, Named, known_places, Stands}
 use Rattle.reader.specs.Says.{InList}

@@ -1,7 +1,6 @@
 -- What a line says, from what its words say.
-use Rattle.std.proofs.Common.{◌≡◌, ℕ, ◌+◌, ◌-◌, ◌<◌, ◌≤◌, List, [], ◌∷◌, length, take, drop, ℤ, Some, None, Ok, Err, Option, Result, sym, refl, ap, ◌∙◌, subst, arith}
+use Rattle.std.proofs.Common.{◌≡◌, ℕ, ◌+◌, ◌<◌, List, [], ◌∷◌, length, ℤ, Some, None, Ok, Err, Result, refl, ap, ◌∙◌, arith}
 use Rattle.book.specs.declared.parts.Kind.{Kind}
-use Rattle.book.specs.declared.parts.Bound.{Bound}
 use Rattle.book.specs.declared.parts.Label.{Label}
 use Rattle.book.specs.Plain.{Plain, empty_label, add_bound}
 use Rattle.format.specs.declared.parts.Work.{Work}

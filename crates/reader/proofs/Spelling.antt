@@ -1,5 +1,5 @@
 -- The first words of lines, as they are spelled.
-use Rattle.std.proofs.Common.{◌≡◌, ℕ, Bool, true, false, cond, List, Some, codes, sym, refl, ap, ◌∙◌, subst}
+use Rattle.std.proofs.Common.{◌≡◌, ℕ, Bool, true, false, cond, List, Some, codes, sym, refl, ap, subst}
 use Rattle.book.specs.declared.parts.Kind.TheVariants.{Least as LeastKind, Most as MostKind}
 use Rattle.format.specs.declared.parts.Work.TheVariants.{Job as JobWork, Check as CheckWork}
 use Rattle.format.specs.Format.{same}

@@ -1,9 +1,9 @@
 -- A reader's way through a text.
-use Rattle.std.specs.Prelude.{◌≡◌, ℕ, ◌+◌, ◌<◌, ◌≤◌, Bool, true, false, List, [], ◌∷◌, ◌++◌, length, drop, Ok, Err, Result, ◌==◌}
+use Rattle.std.specs.Prelude.{◌≡◌, ℕ, ◌+◌, ◌<◌, ◌≤◌, Bool, false, List, ◌∷◌, length, drop, Err, Result, ◌==◌}
 use Rattle.book.specs.Plain.{Plain}
 use Rattle.format.specs.declared.parts.Fault.{Fault}
 use Rattle.format.specs.declared.parts.NamePlace.{NamePlace}
-use Rattle.format.specs.Faults.{cut, line_in, line_name, Rest, Past, Reading, from_top, from_jobs, from_bounds}
+use Rattle.format.specs.Faults.{cut, line_in, Rest, Reading, from_top, from_jobs, from_bounds}
 use Rattle.reader.specs.declared.section.Section.{Section}
 use Rattle.reader.specs.declared.section.Section.TheVariants.{Top, Jobs, Bounds}
 use Rattle.reader.specs.declared.state.Reader.{Reader}

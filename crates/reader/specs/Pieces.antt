@@ -1,5 +1,5 @@
 -- The next piece of a text, by its places.
-use Rattle.std.specs.Prelude.{◌≡◌, ℕ, ◌+◌, ◌-◌, ◌<◌, ◌≤◌, cond, List, [], ◌∷◌, length, take, drop, nat_le}
+use Rattle.std.specs.Prelude.{◌≡◌, ℕ, ◌+◌, ◌-◌, ◌≤◌, cond, List, [], ◌∷◌, length, take, drop, nat_le}
 use Rattle.format.specs.Faults.{cut}
 
 -- the pieces of a text from a place on: none past its end

@@ -1,4 +1,6 @@
 // Reads a plan text into a book.
+#![tactic(auto)]
+
 mod entries;
 mod lines;
 mod names;

@@ -1,3 +1,5 @@
+#![tactic(auto)]
+
 // The reader, tried on a text for each fault of a file.
 #[cfg(test)]
 mod tests {

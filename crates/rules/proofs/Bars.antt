@@ -1,5 +1,5 @@
 -- Marked places whose rules lead to marked places alone: no table keeps these rules.
-use Rattle.std.proofs.Common.{ℕ, zero, suc, ◌+◌, ◌<◌, ◌≤◌, Bool, ◌⊎◌, List, pos, ◌+ℤ◌, ◌≤ℤ◌, subst, ⊎_elim, arith}
+use Rattle.std.proofs.Common.{ℕ, zero, suc, ◌+◌, ◌<◌, ◌≤◌, Bool, List, pos, ◌+ℤ◌, ◌≤ℤ◌, subst, ⊎_elim, arith}
 use Rattle.std.proofs.lemmas.Bool.{cases_lt}
 use Rattle.rules.specs.Rules.{System, Kept, at, rule, alternative}
 use Rattle.rules.specs.Search.{Recorded, In, Closed, Barred}

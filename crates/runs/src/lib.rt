@@ -1,4 +1,6 @@
 // Runs: a crew is told the right jobs at the right minutes, whatever it reports.
+#![tactic(auto)]
+
 mod asks;
 pub mod ending;
 pub mod going;

@@ -1,3 +1,5 @@
+#![tactic(auto)]
+
 // Runs, tried on a small plan.
 #[cfg(test)]
 mod tests {

@@ -1,5 +1,5 @@
 -- How long a sheet can be: its names have at most 8 letters, its minutes at most 10 digits.
-use Rattle.std.proofs.Common.{◌≡◌, ℕ, zero, suc, ◌+◌, ◌*◌, ◌^◌, ◌<◌, ◌≤◌, Bool, true, false, List, [], ◌∷◌, ◌++◌, length, get_or, drop, ℤ, pos, negsuc, codes, decimal, refl, ap, add-one, arith, length-append, length-take}
+use Rattle.std.proofs.Common.{◌≡◌, ℕ, zero, suc, ◌+◌, ◌*◌, ◌^◌, ◌<◌, ◌≤◌, Bool, true, false, List, length, get_or, drop, ℤ, pos, negsuc, decimal, add-one, arith, length-append, length-take}
 use lib.Signed.{mag}
 use Rattle.std.proofs.lemmas.Fmt.{length-decimal-le}
 use Rattle.format.specs.declared.parts.NamePlace.{NamePlace}
@@ -17,7 +17,7 @@ use Rattle.rules.specs.declared.parts.Origin.{Origin}
 use Rattle.rules.specs.declared.parts.Origin.TheVariants.{Bound, Start, Check}
 use Rattle.sheet.specs.declared.grade.Grade.{Grade}
 use Rattle.sheet.specs.declared.grade.Grade.TheVariants.{Strong, Dynamic, Weak}
-use Rattle.sheet.specs.Sheet.{layer_word, fault_line, answer_word, verdict_lines, line, grade_word, job_line, job_lines, jobs_done, one_if_done, row_of, case_lines, cases_lines, table_lines, Within, origin_line, origin_lines, loop_lines, no_place, name_of, Named}
+use Rattle.sheet.specs.Sheet.{layer_word, fault_line, answer_word, verdict_lines, grade_word, job_line, job_lines, jobs_done, one_if_done, row_of, case_lines, cases_lines, table_lines, Within, origin_line, origin_lines, loop_lines, no_place, name_of, Named}
 
 pub digits_2 : (n : ℕ) → n < 100 → length (decimal n) ≤ 2
 digits_2 n h = length-decimal-le 2 n (omega arith) h (omega arith)

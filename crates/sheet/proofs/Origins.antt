@@ -1,11 +1,10 @@
 -- Every origin of a plan's rules names a bound, jobs and a check of the book.
-use Rattle.std.proofs.Common.{◌≡◌, ℕ, zero, suc, ◌<◌, Bool, true, not, eqb, List, [], ◌∷◌, ◌++◌, map, length, get_or, arith}
+use Rattle.std.proofs.Common.{ℕ, zero, suc, ◌<◌, not, eqb, List, [], ◌∷◌, ◌++◌, map, length, get_or, arith}
 use lib.ListN.{length-map}
 use Rattle.book.specs.declared.parts.Kind.{Kind}
 use Rattle.book.specs.declared.parts.Kind.TheVariants.{Least, Most}
 use Rattle.book.specs.Labels.{names}
 use Rattle.book.specs.Plain.{Plain, job, bound, checks}
-use Rattle.rules.specs.declared.parts.Origin.{Origin}
 use Rattle.rules.specs.declared.parts.Origin.TheVariants.{Bound}
 use Rattle.std.proofs.lemmas.List.{get_or-map}
 use Rattle.rules.specs.Rules.{System}

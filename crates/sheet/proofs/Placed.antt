@@ -11,12 +11,12 @@ use Rattle.format.specs.declared.parts.NamePlace.{NamePlace}
 use Rattle.format.specs.declared.parts.Work.{Work}
 use Rattle.format.specs.declared.parts.Work.TheVariants.{Job, Check}
 use Rattle.format.specs.Format.{JobLine, BoundLine, PlanText, Known, at_first, after, after_all, work_word, kind_word, want_word, job_words, bound_words, count_words, plan_lines, spaced, ended, written, Every, WellFormed, GoodJobs, GoodBound}
-use Rattle.format.specs.Entered.{Accepts, add, label_in, bound_in, call_job, call_bound, book_after_jobs, book_after_bounds, book_of, TakesJobs, TakesBounds, BookTakes}
+use Rattle.format.specs.Entered.{Accepts, add, label_in, bound_in, call_job, call_bound, book_after_jobs, book_after_bounds, book_of, TakesJobs, BookTakes}
 use Rattle.format.specs.Faults.{Reading, outcome, cut, work_of, if_work, line_name, job_names, names_of}
-use Rattle.format.proofs.Cuts.{Free, cut_spaced, cut_ended}
+use Rattle.format.proofs.Cuts.{cut_spaced, cut_ended}
 use Rattle.format.proofs.Inks.{Inky, jobs_inky, bounds_inky, job_inky, bound_inky, count_inky, frees, free_lines, all_jobs, all_bounds}
 use Rattle.format.proofs.Sound.{pieces, read_sound}
-use Rattle.sheet.specs.Sheet.{no_place, NameIn, Named}
+use Rattle.sheet.specs.Sheet.{no_place, Named}
 
 -- where the names of the job lines stand, the first line beginning at byte b
 abbrev pub places : ℕ → List JobLine → List NamePlace

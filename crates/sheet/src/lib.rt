@@ -1,4 +1,6 @@
 // From a plan text to its printed sheet.
+#![tactic(auto)]
+
 pub mod answer;
 pub mod grade;
 mod judge;

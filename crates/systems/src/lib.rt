@@ -1,4 +1,6 @@
 // The three rule systems of a book: strong, weak for one case, and dynamic.
+#![tactic(auto)]
+
 mod cases;
 mod collect;
 pub mod dynamic;

@@ -1,3 +1,5 @@
+#![tactic(auto)]
+
 // The rule systems of a plan, tried on the plan of a wet hole.
 #[cfg(test)]
 mod tests {

@@ -1,4 +1,6 @@
 // Tries the verdicts on the wet-hole plan with a minutes list that is one number short, and with one that is just enough.
+#![tactic(auto)]
+
 use book::keeping::Book;
 use book::parts::{Bound, Kind, Label};
 use find::Refusal;

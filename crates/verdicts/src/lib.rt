@@ -1,4 +1,6 @@
 // The three verdicts on a plan.
+#![tactic(auto)]
+
 pub mod answers;
 mod filling;
 mod searching;

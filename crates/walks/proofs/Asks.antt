@@ -1,5 +1,5 @@
 -- The lowest check sought is the check asked for.
-use Rattle.std.proofs.Common.{◌≡◌, ℕ, ◌<◌, cond, List, length, Some, None, Option, ap, lt-ltb}
+use Rattle.std.proofs.Common.{◌≡◌, ℕ, ◌<◌, cond, List, length, Some, None, ap, lt-ltb}
 use Rattle.book.specs.Done.{check_job}
 use Rattle.book.specs.Plain.{Plain, checks, asking}
 use Rattle.book.specs.Sound.{Sound}

@@ -1,6 +1,6 @@
 -- What was told is exactly what every agreeing case has, up to the last minute told.
-use Rattle.std.proofs.Common.{◌≡◌, ℕ, zero, suc, ◌+◌, ◌<◌, ◌≤◌, ◌≢◌, ◌⊎◌, ◌↔◌, List, [], ◌∷◌, Some, None, Option, sym, refl, ap, ◌∙◌, subst, inl, inr, arith}
-use native.Mathlib.Decide.{ℕ_discrete, dec_lt, dec_le}
+use Rattle.std.proofs.Common.{◌≡◌, ℕ, ◌<◌, ◌≤◌, ◌⊎◌, ◌↔◌, List, [], ◌∷◌, sym, ◌∙◌, inl, inr, arith}
+use native.Mathlib.Decide.{dec_lt, dec_le}
 use Rattle.book.specs.Plain.{Plain}
 use Rattle.grades.specs.Grades.{Minutes}
 use Rattle.walks.specs.declared.parts.Telling.{Telling}

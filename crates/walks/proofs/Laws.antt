@@ -1,18 +1,18 @@
 -- Every lawful log keeps the law, and a log at its end is whole.
-use Rattle.std.proofs.Common.{◌≡◌, ℕ, zero, suc, ◌+◌, ◌<◌, ◌≤◌, max, ◌≢◌, ◌⊎◌, ◌↔◌, List, [], ◌∷◌, ◌++◌, length, sym, refl, ap, ◌∙◌, subst, inl, inr, arith}
-use native.Mathlib.Decide.{ℕ_discrete, dec_lt}
+use Rattle.std.proofs.Common.{◌≡◌, ℕ, ◌<◌, ◌⊎◌, List, [], ◌∷◌, ◌++◌, length, sym, refl, subst, inl, inr, arith}
+use native.Mathlib.Decide.{ℕ_discrete}
 use Rattle.book.specs.Labels.{bit}
-use Rattle.book.specs.Plain.{Plain, checks, asking, Done}
+use Rattle.book.specs.Plain.{Plain, Done}
 use Rattle.book.proofs.Bits.{bit-bit_or}
 use Rattle.grades.specs.Grades.{Minutes}
 use Rattle.walks.specs.declared.parts.Telling.{Telling}
 use Rattle.walks.specs.declared.parts.Event.{Event}
 use Rattle.walks.specs.declared.parts.Event.TheVariants.{Told, Reported}
-use Rattle.walks.specs.Logs.{Has, ToldAt, Heard, Agreeing, Awaited, NoneAwaited, all_told, Comes, Left, Lawful, Right, Tells, Ended}
+use Rattle.walks.specs.Logs.{Has, ToldAt, Agreeing, all_told, Lawful, Tells, Ended}
 use Rattle.walks.specs.Law.{Was, Next, Law, Whole, LawfulKeepLaw, EndedAreWhole}
-use Rattle.walks.specs.Standing.{yes_set, heard_set, time}
-use Rattle.walks.proofs.Sets.{some_bit, bit_of_none, bit_same, size, size_le, size_grows}
-use Rattle.walks.proofs.Reports.{yes_agreeing, told_heard, in_heard, heard_in}
+use Rattle.walks.specs.Standing.{yes_set}
+use Rattle.walks.proofs.Sets.{some_bit, bit_of_none}
+use Rattle.walks.proofs.Reports.{yes_agreeing, told_heard}
 use Rattle.walks.proofs.Exact.{up_time, exact, past_all}
 
 told_dec : (log : List Event) (j v : ℕ) → Dec (ToldAt log j v)

@@ -1,24 +1,22 @@
 -- A list of minutes that makes a sheet ready: its rows, the list of a new book, and a list that a verdict filled.
-use Rattle.std.proofs.Common.{◌≡◌, ℕ, zero, suc, ◌+◌, ◌-◌, ◌*◌, ◌<◌, ◌≤◌, Bool, true, false, cond, ◌≢◌, ◌⊎◌, ◌↔◌, List, [], ◌∷◌, ◌++◌, length, get_or, take, drop, replicate, ℤ, pos, negsuc, Some, None, Option, sym, refl, ap, ◌∙◌, subst, inl, inr, suc-mul, zero-mul, arith, length-append, length-drop, length-take, get_or-drop, get_or-take}
+use Rattle.std.proofs.Common.{◌≡◌, ℕ, zero, suc, ◌+◌, ◌-◌, ◌*◌, ◌<◌, ◌≤◌, Bool, true, false, cond, ◌⊎◌, List, [], ◌∷◌, ◌++◌, length, get_or, take, drop, replicate, ℤ, pos, negsuc, Some, None, Option, sym, refl, ap, ◌∙◌, subst, inl, inr, suc-mul, zero-mul, arith, length-append, get_or-drop, get_or-take}
 use native.Mathlib.Decide.{dec_lt}
 use Rattle.std.proofs.lemmas.Nat.{mul-add-lt, mul-le}
-use Rattle.std.proofs.lemmas.List.{get_or_append_left, get_or-append_right, get_or-replicate, take_at}
-use Rattle.book.specs.declared.parts.Kind.{Kind}
-use Rattle.book.specs.declared.parts.Kind.TheVariants.{Least, Most}
+use Rattle.std.proofs.lemmas.List.{get_or_append_left, get_or-append_right, take_at}
 use Rattle.book.specs.Labels.{bit}
 use Rattle.book.specs.Done.{done}
 use Rattle.book.specs.Plain.{Plain, bound, checks, asking, cases, Case, Done, new_book}
 use Rattle.book.specs.Sound.{Sound}
-use Rattle.book.proofs.Tests.{done_decides, dec_done, differ}
-use Rattle.grades.specs.Grades.{Minutes, Strategy, Dynamic, Earliest, Agrees, Known, Within, NoLater}
+use Rattle.book.proofs.Tests.{done_decides}
+use Rattle.grades.specs.Grades.{Minutes, Strategy, Dynamic, Earliest, Agrees, Within}
 use Rattle.grades.specs.Systems.{each_below, place, shown, listed}
 use Rattle.grades.specs.Theorems.{Alike}
 use Rattle.grades.proofs.Strategies.{start_done, check_done}
 use Rattle.grades.proofs.Limits.{few_cases}
 use Rattle.walks.specs.declared.parts.Telling.{Telling}
-use Rattle.walks.specs.Logs.{Has, Comes}
+use Rattle.walks.specs.Logs.{Comes}
 use Rattle.walks.specs.Standing.{Begins, Over, First}
-use Rattle.walks.specs.Rows.{natural, Shows, LeastBelow, JobsBelow, FirstFrom}
+use Rattle.walks.specs.Rows.{natural, Shows, FirstFrom}
 use Rattle.walks.specs.Ready.{value, read, Ready}
 use Rattle.walks.proofs.Sets.{bit_of_none}
 

@@ -1,5 +1,5 @@
 -- One event more in a log.
-use Rattle.std.proofs.Common.{◌≡◌, ℕ, ◌+◌, ◌*◌, ◌%◌, ◌^◌, ◌<◌, ◌≤◌, Bool, cond, List, [], ◌∷◌, ◌++◌, reverse, length, take, set, sym, refl, ap, ◌∙◌, arith, length-take}
+use Rattle.std.proofs.Common.{◌≡◌, ℕ, ◌+◌, ◌*◌, ◌%◌, ◌^◌, ◌<◌, ◌≤◌, List, [], ◌∷◌, reverse, length, take, set, ap, ◌∙◌, arith, length-take}
 use lib.Bits.{bit_or}
 use Rattle.std.proofs.lemmas.List.{take_more_set, reverse-append, length-reverse}
 use Rattle.std.proofs.lemmas.Nat.{one_shl}

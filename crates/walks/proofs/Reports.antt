@@ -1,5 +1,5 @@
 -- Reports: which checks were reported, and that the set of those reported yes is a case that agrees.
-use Rattle.std.proofs.Common.{◌≡◌, ℕ, zero, suc, ◌+◌, ◌^◌, ◌<◌, ◌≤◌, max, Bool, true, false, cond, ◌≢◌, ◌⊎◌, ◌↔◌, List, [], ◌∷◌, sym, refl, ap, ◌∙◌, subst, inl, inr, arith}
+use Rattle.std.proofs.Common.{◌≡◌, ℕ, ◌^◌, ◌<◌, Bool, true, false, cond, ◌≢◌, ◌⊎◌, List, [], ◌∷◌, sym, refl, ◌∙◌, subst, inl, inr, arith}
 use native.Mathlib.Decide.{ℕ_discrete}
 use lib.Bits.{bit_or}
 use Rattle.std.proofs.lemmas.Nat.{or_lt, pow_below, pow_pos}
@@ -9,7 +9,7 @@ use Rattle.book.proofs.Bits.{bit-bit_or}
 use Rattle.grades.specs.Grades.{Minutes}
 use Rattle.walks.specs.declared.parts.Event.{Event}
 use Rattle.walks.specs.declared.parts.Event.TheVariants.{Told, Reported}
-use Rattle.walks.specs.Logs.{Has, ToldAt, Heard, Agrees, Agreeing, Awaited, NoneAwaited, Lawful}
+use Rattle.walks.specs.Logs.{ToldAt, Heard, Agrees, Agreeing, Awaited, NoneAwaited, Lawful}
 use Rattle.walks.specs.Standing.{heard_set, yes_set}
 use Rattle.walks.proofs.Sets.{bit_of_none, bit_same, bit_other}
 

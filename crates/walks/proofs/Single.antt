@@ -1,5 +1,5 @@
 -- To be lawful is a proposition, and so are the other things that a run keeps in its type.
-use Rattle.std.proofs.Common.{◌≡◌, ℕ, List, [], ◌∷◌}
+use Rattle.std.proofs.Common.{ℕ, List, [], ◌∷◌}
 use mathlib.Core.HLevel.{⊥_prop}
 use native.Mathlib.Bridge.{le_prop}
 use native.Mathlib.Nat.{ℕ_set}
@@ -8,7 +8,7 @@ use Rattle.grades.specs.Grades.{Minutes}
 use Rattle.walks.specs.declared.parts.Telling.{Telling}
 use Rattle.walks.specs.declared.parts.Event.{Event}
 use Rattle.walks.specs.declared.parts.Event.TheVariants.{Told, Reported}
-use Rattle.walks.specs.Logs.{Awaited, Asked, NoneAwaited, Left, Right, Lawful, Tells, Ended}
+use Rattle.walks.specs.Logs.{Asked, NoneAwaited, Left, Right, Lawful, Tells, Ended}
 
 module _ (b : Plain) where
   left_single : (log : List Event) (s j : ℕ) → IsProp (Left b log s j)

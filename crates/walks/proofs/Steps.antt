@@ -1,9 +1,9 @@
 -- The case of the checks reported yes can lead: what comes next in it is what comes next, and a lawful log has few events.
-use Rattle.std.proofs.Common.{◌≡◌, ℕ, zero, suc, ◌+◌, ◌^◌, ◌<◌, ◌≤◌, max, ◌≢◌, ◌⊎◌, ◌↔◌, List, [], ◌∷◌, length, Some, Option, sym, refl, ap, ◌∙◌, subst, inl, inr, arith}
+use Rattle.std.proofs.Common.{◌≡◌, ℕ, suc, ◌+◌, ◌^◌, ◌<◌, ◌≤◌, List, [], ◌∷◌, length, Some, refl, ◌∙◌, arith}
 use native.Mathlib.Decide.{ℕ_discrete, dec_lt, dec_le}
 use lib.Bits.{bit_or}
 use Rattle.book.specs.Labels.{bit}
-use Rattle.book.specs.Plain.{Plain, checks, asking, Case, Done}
+use Rattle.book.specs.Plain.{Plain, checks, asking, Done}
 use Rattle.book.specs.Sound.{Sound}
 use Rattle.book.proofs.Bits.{bit-bit_or}
 use Rattle.grades.specs.Grades.{Minutes, Dynamic}
@@ -12,7 +12,7 @@ use Rattle.grades.proofs.Strategies.{start_done}
 use Rattle.walks.specs.declared.parts.Telling.{Telling}
 use Rattle.walks.specs.declared.parts.Event.{Event}
 use Rattle.walks.specs.declared.parts.Event.TheVariants.{Told, Reported}
-use Rattle.walks.specs.Logs.{Has, ToldAt, Heard, Agreeing, Awaited, NoneAwaited, all_told, last_minute, Comes, Left, Lawful, Tells, Ended}
+use Rattle.walks.specs.Logs.{Has, ToldAt, Agreeing, NoneAwaited, all_told, last_minute, Left, Lawful, Tells, Ended}
 use Rattle.walks.specs.Standing.{yes_set, heard_set, time, Begins, Over}
 use Rattle.walks.proofs.Sets.{some_bit, bit_same, size, size_le, size_grows}
 use Rattle.walks.proofs.Reports.{yes_agreeing, agree_same, told_heard, in_heard}

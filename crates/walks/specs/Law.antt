@@ -1,10 +1,10 @@
 -- The law of runs: what holds of every lawful log, at every time of its run.
-use Rattle.std.specs.Prelude.{◌≡◌, ℕ, ◌<◌, ◌≤◌, ◌↔◌, List, [], ◌∷◌, ◌++◌, length, Some, Option}
-use Rattle.book.specs.Plain.{Plain, checks, asking, Case, Done}
+use Rattle.std.specs.Prelude.{◌≡◌, ℕ, ◌<◌, ◌≤◌, ◌↔◌, List, ◌∷◌, ◌++◌, length}
+use Rattle.book.specs.Plain.{Plain, checks, asking, Done}
 use Rattle.grades.specs.Grades.{Minutes}
 use Rattle.walks.specs.declared.parts.Telling.{Telling}
 use Rattle.walks.specs.declared.parts.Event.{Event}
-use Rattle.walks.specs.declared.parts.Event.TheVariants.{Told, Reported}
+use Rattle.walks.specs.declared.parts.Event.TheVariants.{Told}
 use Rattle.walks.specs.Logs.{Has, ToldAt, Heard, Agreeing, last_minute, UpTo, all_told, Comes, Left, NoneAwaited, Lawful, Ended}
 
 -- `then` is the log as it stood at some time of the run

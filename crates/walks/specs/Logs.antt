@@ -1,10 +1,9 @@
 -- Logs of runs: what was told and reported, which cases agree with it, and what it is for the next event to be right.
-use Rattle.std.specs.Prelude.{◌≡◌, ℕ, ◌<◌, ◌≤◌, Bool, cond, ◌≢◌, ◌⊎◌, ◌↔◌, List, [], ◌∷◌, length, Some, None, Option, bit_or}
+use Rattle.std.specs.Prelude.{◌≡◌, ℕ, ◌<◌, ◌≤◌, cond, ◌≢◌, ◌⊎◌, ◌↔◌, List, [], ◌∷◌, length, Some, None, Option, bit_or}
 use Rattle.book.specs.Labels.{bit}
 use Rattle.book.specs.Plain.{Plain, checks, asking, Case, Done}
 use Rattle.grades.specs.Grades.{Minutes}
 use Rattle.walks.specs.declared.parts.Telling.{Telling}
-use Rattle.walks.specs.declared.parts.Report.{Report}
 use Rattle.walks.specs.declared.parts.Event.{Event}
 use Rattle.walks.specs.declared.parts.Event.TheVariants.{Told, Reported}
 

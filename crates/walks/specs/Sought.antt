@@ -1,5 +1,5 @@
 -- Which check is sought, from the set of the jobs just told and the set of the checks heard of.
-use Rattle.std.specs.Prelude.{◌≡◌, ℕ, ◌<◌, Some, None, Option}
+use Rattle.std.specs.Prelude.{ℕ, ◌<◌, Some, None, Option}
 use Rattle.book.specs.Plain.{Plain, checks, asking}
 use Rattle.walks.specs.Logs.{Has}
 

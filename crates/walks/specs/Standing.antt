@@ -1,5 +1,5 @@
 -- What a log comes to, as sets and numbers that can be kept beside it.
-use Rattle.std.specs.Prelude.{◌≡◌, ℕ, ◌+◌, ◌^◌, ◌<◌, ◌≤◌, cond, ◌≢◌, ◌↔◌, List, [], ◌∷◌, length, Some, None, Option, bit_or}
+use Rattle.std.specs.Prelude.{ℕ, ◌+◌, ◌^◌, ◌<◌, ◌≤◌, cond, ◌≢◌, ◌↔◌, List, [], ◌∷◌, length, Some, None, Option, bit_or}
 use Rattle.book.specs.Plain.{Plain, Case, Done}
 use Rattle.grades.specs.Grades.{Minutes}
 use Rattle.walks.specs.declared.parts.Telling.{Telling}

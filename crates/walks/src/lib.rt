@@ -1,3 +1,5 @@
 // Logs of runs, and the law that they keep.
+#![tactic(auto)]
+
 pub mod parts;
 pub mod theorems;

@@ -1,4 +1,4 @@
-use Rattle.std.proofs.Common.{◌≤◌, length, drop, ap, arith, length-append, rules}
+use Rattle.std.proofs.Common.{◌≤◌, length, ap, arith, length-append, rules}
 use Rattle.planner.proofs.main.Goals as goal
 
 pub slice_bounds-write_all-end : goal.slice_bounds-write_all-end

@@ -1,4 +1,4 @@
-use Rattle.std.proofs.Common.{◌≡◌, sym, ap, subst}
+use Rattle.std.proofs.Common.{ap, subst}
 use Rattle.format.specs.Theorems.{reading_of, Writes}
 use Rattle.format.proofs.Sound.{read_sound}
 use Rattle.format.proofs.Complete.{read_complete}

@@ -1,4 +1,4 @@
-use Rattle.std.proofs.Common.{◌≡◌, sym, ap, ◌∙◌}
+use Rattle.std.proofs.Common.{sym, ap, ◌∙◌}
 use Rattle.format.specs.Theorems.{reading_of}
 use Rattle.format.proofs.Sound.{read_sound}
 use Rattle.format.proofs.theorems.reads_plans.Goals as goal

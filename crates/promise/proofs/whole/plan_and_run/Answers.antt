@@ -1,9 +1,8 @@
-use Rattle.std.proofs.Common.{◌≡◌, vec_items, sym, refl, ap, ◌∙◌, subst}
+use Rattle.std.proofs.Common.{◌≡◌, vec_items, sym, subst}
 use Rattle.book.specs.Held.{held}
 use Rattle.book.specs.Plain.{new_book}
-use Rattle.book.specs.Fed.{fed, fed_from}
 use Rattle.promise.specs.declared.outcome.Run.{Run}
-use Rattle.promise.specs.Serving.{desk, AllServed, calls_among}
+use Rattle.promise.specs.Serving.{desk, AllServed}
 use Rattle.promise.specs.Whole.{RunKept}
 use Rattle.promise.proofs.Requests.{plan_served}
 use Rattle.promise.proofs.whole.plan_and_run.Goals as goal

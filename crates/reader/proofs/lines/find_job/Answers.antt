@@ -1,6 +1,6 @@
-use Rattle.std.proofs.Common.{◌≡◌, ◌-◌, length, take, sym, refl, ap, ◌∙◌, subst, arith}
+use Rattle.std.proofs.Common.{◌≡◌, ◌-◌, length, take, sym, ap, ◌∙◌, subst, arith}
 use Rattle.book.specs.Held.{held, held_sound}
-use Rattle.reader.specs.Names.{Placed, number_among, known_places, known_by}
+use Rattle.reader.specs.Names.{Placed, number_among, known_places}
 use Rattle.reader.proofs.Naming.{stands_named, known_number, number_bound, in_list}
 use Rattle.reader.proofs.lines.find_job.Goals as goal
 

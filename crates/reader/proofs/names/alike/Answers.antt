@@ -1,4 +1,3 @@
-use Rattle.std.proofs.Common.{◌≡◌}
 use Rattle.std.proofs.lemmas.Slice.Eq.{slice_eq-Decides}
 use Rattle.format.proofs.Words.{same_decides}
 use Rattle.reader.proofs.Naming.{decided_alike}

@@ -1,4 +1,4 @@
-use Rattle.std.proofs.Common.{◌≡◌, length, sym, subst, arith}
+use Rattle.std.proofs.Common.{length, sym, subst, arith}
 use Rattle.reader.specs.Names.{Stands}
 use Rattle.reader.specs.Going.{Due}
 use Rattle.reader.specs.declared.section.Section.TheVariants.{Top}

@@ -1,4 +1,4 @@
-use Rattle.std.proofs.Common.{◌≡◌, ◌<◌, ◌⊎◌, length, get_or, sym, ◌∙◌, inl, inr, arith, rules}
+use Rattle.std.proofs.Common.{◌<◌, ◌⊎◌, get_or, sym, ◌∙◌, inl, inr, arith}
 use Rattle.format.specs.Faults.{letters}
 use Rattle.std.proofs.lemmas.List.{at_drop_all}
 use Rattle.reader.proofs.Pieces.{letter_more, letter_stop, name_is}

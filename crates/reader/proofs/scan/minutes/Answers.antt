@@ -1,4 +1,4 @@
-use Rattle.std.proofs.Common.{◌≡◌, ◌-◌, length, take, drop, pos, ◌-ℤ◌, neg_ℤ, Some, None, ap, ◌∙◌, arith, w32, to_z, of_z, rules}
+use Rattle.std.proofs.Common.{◌≡◌, ◌-◌, length, take, drop, pos, ◌-ℤ◌, neg_ℤ, Some, ap, ◌∙◌, arith, w32, to_z, of_z, rules}
 use Rattle.std.proofs.lemmas.Int.{ints}
 use Rattle.reader.proofs.Numbers.{plain_minutes, minus_minutes, zero_minutes, no_minutes, small}
 use Rattle.reader.proofs.scan.minutes.Goals as goal

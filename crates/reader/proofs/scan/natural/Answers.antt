@@ -1,4 +1,4 @@
-use Rattle.std.proofs.Common.{◌≡◌, ◌-◌, ◌<◌, ◌≤◌, ◌⊎◌, length, get_or, sym, refl, ◌∙◌, inl, inr, arith, rules}
+use Rattle.std.proofs.Common.{◌≡◌, ◌-◌, ◌<◌, ◌≤◌, ◌⊎◌, length, get_or, sym, ◌∙◌, inl, inr, arith, rules}
 use Rattle.std.proofs.lemmas.List.{at_drop_all}
 use Rattle.format.specs.Faults.{digits, number_after}
 use Rattle.reader.proofs.Numbers.{digit_more, digit_stop, value_more, below_more, below_five, natural_is, natural_not}

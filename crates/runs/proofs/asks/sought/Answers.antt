@@ -1,6 +1,6 @@
-use Rattle.std.proofs.Common.{◌≡◌, ℕ, ◌<◌, ◌≤◌, Some, None, Option, sym, ◌∙◌, arith, rules}
+use Rattle.std.proofs.Common.{◌≡◌, ℕ, ◌<◌, Some, None, arith, rules}
 use Rattle.book.specs.Held.{held, held_sound}
-use Rattle.book.specs.Plain.{Plain, checks, asking}
+use Rattle.book.specs.Plain.{Plain, asking}
 use Rattle.book.specs.Done.{check_job}
 use Rattle.walks.proofs.Asks.{check_found}
 use Rattle.runs.proofs.asks.sought.Goals as goal

@@ -1,4 +1,4 @@
-use Rattle.std.proofs.Common.{◌≡◌, ◌+◌, ◌<◌, length, get_or, pos, Some, sym, refl, ap, ◌∙◌, subst, arith, w32, SFits, rules}
+use Rattle.std.proofs.Common.{◌+◌, get_or, pos, sym, ap, ◌∙◌, subst, arith, w32, SFits, rules}
 use borrow.Author.Tests.{both_ways}
 use Rattle.std.proofs.lemmas.Int.{to_z-of_z}
 use Rattle.walks.specs.Rows.{natural, JobsBelow}

@@ -1,4 +1,4 @@
-use Rattle.std.proofs.Common.{length, take, refl, ap, inl, inr, arith, rules}
+use Rattle.std.proofs.Common.{length, refl, ap, inl, inr, arith, rules}
 use Rattle.book.specs.Held.{held, held_sound}
 use Rattle.sheet.specs.Sheet.{fault_line}
 use Rattle.sheet.proofs.answer.put_text.Goals as goal

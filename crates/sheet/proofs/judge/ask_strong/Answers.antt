@@ -1,4 +1,4 @@
-use Rattle.std.proofs.Common.{◌≡◌, subst}
+use Rattle.std.proofs.Common.{subst}
 use Rattle.book.specs.Held.{held}
 use Rattle.sheet.specs.declared.grade.Grade.TheVariants.{Strong}
 use Rattle.verdicts.specs.Verdicts.{StrongSays}

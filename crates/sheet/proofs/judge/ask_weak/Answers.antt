@@ -1,4 +1,4 @@
-use Rattle.std.proofs.Common.{◌≡◌, refl, subst}
+use Rattle.std.proofs.Common.{refl, subst}
 use Rattle.book.specs.Held.{held}
 use Rattle.verdicts.specs.Verdicts.{WeakSays}
 use Rattle.sheet.specs.declared.grade.Grade.TheVariants.{Weak}

@@ -1,7 +1,6 @@
-use Rattle.std.proofs.Common.{◌≡◌, suc, ◌≤◌, true, length, is_some, ap, ◌∙◌, arith, rules}
-use Rattle.book.specs.Plain.{asking}
+use Rattle.std.proofs.Common.{is_some, ap, ◌∙◌, rules}
 use Rattle.book.specs.Held.{held, held_sound}
-use Rattle.sheet.proofs.Rows.{check_found, fewer_named}
+use Rattle.sheet.proofs.Rows.{check_found}
 use Rattle.sheet.proofs.lines.check_name.Goals as goal
 
 pub overflow_cast-check : goal.overflow_cast-check

@@ -1,7 +1,6 @@
-use Rattle.std.proofs.Common.{◌≡◌, ◌+◌, get_or, pos, add-one, arith, rules}
+use Rattle.std.proofs.Common.{get_or, pos, add-one, arith}
 use Rattle.sheet.proofs.Rows.{counts_none, counts_one}
 use Rattle.std.proofs.lemmas.Int.{ints}
-use Rattle.sheet.specs.Sheet.{one_if_done}
 use Rattle.sheet.proofs.lines.count_done.Goals as goal
 use Rattle.sheet.proofs.lines.count_done.Goals.{then-minute-ge0, else-minute-ge0}
 

@@ -1,4 +1,4 @@
-use Rattle.std.proofs.Common.{◌≡◌, length, get_or, pos, sym, arith, w32, SFits, rules}
+use Rattle.std.proofs.Common.{length, get_or, pos, sym, arith, w32, SFits, rules}
 use Rattle.std.proofs.lemmas.Int.{to_z-of_z}
 use Rattle.sheet.specs.Sheet.{name_of}
 use Rattle.sheet.proofs.Fits.{name_short, jobs_fit}

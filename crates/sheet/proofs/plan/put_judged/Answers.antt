@@ -1,6 +1,5 @@
-use Rattle.std.proofs.Common.{◌≡◌, ℕ, ◌-◌, ◌*◌, ◌<◌, ◌≤◌, List, ◌++◌, length, get_or, take, vec_items, sym, ap, ◌∙◌, subst, ap₂, arith, length-take}
+use Rattle.std.proofs.Common.{◌≡◌, ℕ, ◌-◌, ◌*◌, ◌<◌, ◌≤◌, ◌++◌, length, get_or, take, vec_items, sym, ap, ◌∙◌, subst, ap₂, arith, length-take}
 use Rattle.book.specs.Held.{held}
-use Rattle.rules.specs.declared.parts.Origin.{Origin}
 use Rattle.rules.specs.declared.parts.Origin.TheVariants.{Bound}
 use Rattle.verdicts.specs.Verdicts.{size}
 use Rattle.sheet.specs.Sheet.{strongest, rest_lines, Within, name_of}

@@ -1,4 +1,4 @@
-use Rattle.std.proofs.Common.{length, arith}
+use Rattle.std.proofs.Common.{arith}
 use Rattle.book.specs.Held.{held, held_sound}
 use Rattle.sheet.proofs.Judging.{size_fits}
 use Rattle.sheet.proofs.plan.put_plan.Goals as goal

@@ -1,4 +1,4 @@
-use Rattle.std.proofs.Common.{◌≡◌, ℕ, suc, ◌+◌, ◌*◌, ◌<◌, ◌≤◌, List, ◌++◌, length, drop, ℤ, sym, ap, ◌∙◌, mul-le-mul_right, suc-mul, zero-mul, arith}
+use Rattle.std.proofs.Common.{◌≡◌, ℕ, suc, ◌*◌, ◌<◌, ◌≤◌, List, ◌++◌, length, drop, ℤ, sym, ap, ◌∙◌, mul-le-mul_right, suc-mul, zero-mul, arith}
 use Rattle.book.specs.Plain.{cases}
 use Rattle.book.specs.Held.{held}
 use Rattle.grades.specs.Systems.{each_below}

@@ -1,11 +1,10 @@
-use Rattle.std.proofs.Common.{◌≡◌, ◌+◌, ◌-◌, ◌<◌, ◌≤◌, length, take, sym, refl, ap, ◌∙◌, subst, arith}
+use Rattle.std.proofs.Common.{◌≡◌, ◌+◌, ◌-◌, ◌≤◌, length, take, sym, refl, ap, ◌∙◌, subst, arith}
 use Rattle.book.specs.Held.{held, held_sound}
-use Rattle.reader.specs.declared.section.Section.TheVariants.{Jobs as JobsDue, Bounds as BoundsDue}
 use Rattle.reader.specs.declared.section.Word.TheVariants.{Job, Check, Least, Most}
 use Rattle.reader.specs.Words.{word_of}
 use Rattle.reader.specs.Going.{Due}
 use Rattle.reader.proofs.Spelling.{spelled, job_word, check_word, least_word, most_word}
-use Rattle.reader.proofs.Entered.{one_more, same_room, stands_after, jobs_stay, bound_stands}
+use Rattle.reader.proofs.Entered.{one_more, same_room, stands_after, bound_stands}
 use Rattle.reader.proofs.state.Reader.enter.Goals as goal
 
 pub count-requires : goal.count-requires

@@ -1,4 +1,4 @@
-use Rattle.std.proofs.Common.{◌≡◌, ◌+◌, ◌<◌, ◌≤◌, length, sym, ap, ◌∙◌, arith, length-set, rules}
+use Rattle.std.proofs.Common.{sym, ap, ◌∙◌, arith, length-set, rules}
 use lib.Bits.{bit_or}
 use Rattle.walks.specs.declared.parts.Event.TheVariants.{Told}
 use Rattle.walks.specs.Logs.{just_told, all_told}

@@ -1,4 +1,4 @@
-use Rattle.std.proofs.Common.{◌≡◌, ◌+◌, ◌*◌, ◌<◌, ◌≤◌, length, ap, subst, arith, length-drop, length-take, rules}
+use Rattle.std.proofs.Common.{◌+◌, ◌*◌, ◌<◌, ◌≤◌, length, ap, subst, arith, length-drop, length-take, rules}
 use Rattle.book.specs.Held.{held_sound}
 use Rattle.runs.proofs.Carried.{within, first_in}
 use Rattle.runs.proofs.sheet.RunSheet.first.Goals as goal

@@ -1,4 +1,4 @@
-use Rattle.std.proofs.Common.{◌≡◌, length, sym, ap, subst, rules}
+use Rattle.std.proofs.Common.{sym, subst, rules}
 use Rattle.book.specs.Plain.{Plain}
 use Rattle.walks.specs.Ready.{Ready}
 use Rattle.runs.proofs.sheet.RunSheet.make_ready.Goals as goal

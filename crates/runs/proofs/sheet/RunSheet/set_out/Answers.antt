@@ -1,4 +1,4 @@
-use Rattle.std.proofs.Common.{◌≡◌, List, [], sym, refl, subst, arith}
+use Rattle.std.proofs.Common.{List, [], sym, refl, subst, arith}
 use Rattle.walks.specs.declared.parts.Event.{Event}
 use Rattle.walks.specs.Logs.{Lawful, NoneAwaited}
 use Rattle.walks.proofs.Laws.{lawful_keep_law}

@@ -8,7 +8,7 @@ use Rattle.walks.proofs.Laws.{lawful_keep_law}
 use Rattle.runs.specs.declared.state.Asking.{Asking}
 use Rattle.runs.specs.Recorded.{recorded}
 use Rattle.runs.specs.Sheets.{plan, times}
-use Rattle.runs.proofs.Carried.{room, reported, asked_still, asked_next, none_next}
+use Rattle.runs.proofs.Carried.{room, reported, asked_next, none_next}
 use Rattle.runs.proofs.state.Asking.hear.Goals as goal
 
 -- a report of the check asked for is right

@@ -1,6 +1,5 @@
 use Rattle.std.proofs.Common.{◌*◌, List, length, sym, ap, subst, ap₂, arith}
 use Rattle.book.specs.declared.parts.Job.{Job}
-use Rattle.book.specs.Plain.{cases}
 use Rattle.book.specs.Held.{held, held_sound}
 use Rattle.rules.specs.Rules.{Sound}
 use Rattle.grades.proofs.Limits.{systems_sound, few_places}
