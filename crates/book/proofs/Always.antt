@@ -1,6 +1,6 @@
 -- What holds of every plain book: its checks are done where they are wanted, and it stays sound.
 use Rattle.std.proofs.Common.{◌≡◌, ℕ, ◌+◌, ◌<◌, List, [], ◌∷◌, ◌++◌, length, get_or, take, sym, refl, ap, ◌∙◌}
-use Rattle.std.specs.List.{AllByRecursion as All}
+use Rattle.std.specs.List.{AllByRecursion}
 use Rattle.std.proofs.lemmas.List.{take_more}
 use Rattle.book.specs.declared.parts.Label.{Label}
 use Rattle.book.specs.declared.parts.Call.{Call}
@@ -26,7 +26,7 @@ one_keeps b (AddCheck l) h s = add_check_keeps b l h.0 h.1 s
 one_keeps b (AddBound l) h s = add_bound_keeps b l s
 one_keeps b (Withdraw n) h s = withdraw_keeps b n s
 
-all_keep : (b : Plain) (cs : List Call) → All Handed cs → Sound b → Sound (fed_from b cs)
+all_keep : (b : Plain) (cs : List Call) → AllByRecursion Handed cs → Sound b → Sound (fed_from b cs)
 all_keep b [] h s = s
 all_keep b (c ∷ cs) h s = all_keep (fed_one b c) cs h.1 (one_keeps b c h.0 s)
 

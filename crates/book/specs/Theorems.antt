@@ -1,6 +1,6 @@
 -- What holds of every plain book.
 use Rattle.std.specs.Prelude.{ℕ, ◌<◌, List, length}
-use Rattle.std.specs.List.{AllByRecursion as All}
+use Rattle.std.specs.List.{AllByRecursion}
 use Rattle.book.specs.declared.parts.Call.{Call}
 use Rattle.book.specs.Labels.{Names}
 use Rattle.book.specs.Plain.{Plain, Done, job, asking}
@@ -13,4 +13,4 @@ ChecksDone = (b : Plain) → Sound b → (s j c : ℕ) → j < length b.jobs →
 
 -- whatever calls a new plain book is fed, it is sound
 abbrev pub StaysSound : Type 0
-StaysSound = (calls : List Call) → All Handed calls → Sound (fed calls)
+StaysSound = (calls : List Call) → AllByRecursion Handed calls → Sound (fed calls)

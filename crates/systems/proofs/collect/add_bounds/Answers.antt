@@ -2,7 +2,7 @@ use Rattle.std.proofs.Common.{◌≡◌, ◌<◌, List, [], ◌∷◌, length, g
 use Rattle.book.specs.declared.parts.Bound.{Bound}
 use Rattle.book.specs.Plain.{no_bound}
 use Rattle.book.specs.Held.{held, held_sound}
-use Rattle.rules.specs.declared.parts.Origin.TheVariants.{Bound as From-bound}
+use Rattle.rules.specs.declared.parts.Origin.TheVariants.{Bound as FromBound}
 use Rattle.grades.specs.declared.holds.Hold.{Hold}
 use Rattle.grades.specs.Systems.{hold_of, bound_hold}
 use Rattle.systems.specs.Adding.{Adds, items}
@@ -24,7 +24,7 @@ pub loop-i-preserved : goal.loop-i-preserved
 loop-i-preserved c =
     let b = held c.args.book.now in
     let i = c.loop-i.i in
-    let at_i : Bound → Hold = λ l. hold_of l.kind l.first l.second l.minutes (From-bound i) in
+    let at_i : Bound → Hold = λ l. hold_of l.kind l.first l.second l.minutes (FromBound i) in
     let one : c.bound_hold.result ≡ bound_hold b i = c.bound_hold.ensures ∙ ap (λ ls. at_i (get_or ls i no_bound)) c.bounds-bounds.ensures in
     let put : Adds 164 (items c.loop-i.out) (bound_hold b i ∷ []) (items c.push.new.self) =
     subst (λ x. Adds 164 (items c.loop-i.out) (x ∷ []) (items c.push.new.self)) one c.push.ensures in
