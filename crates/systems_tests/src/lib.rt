@@ -1,13 +1,12 @@
+// The rule systems of a plan, tried on the plan of a wet hole.
 #![tactic(auto)]
 
-// The rule systems of a plan, tried on the plan of a wet hole.
 #[cfg(test)]
 mod tests {
     use book::keeping::Book;
     use book::parts::{Bound, Kind, Label};
     use rules::parts::Origin;
     use rules::system::{RuleSystem, WithOrigins};
-    use std::process::Abort;
     use std::test::Fail;
     use systems::kept::{Dynamic, Strong, Weak};
 
@@ -22,17 +21,17 @@ mod tests {
         book.add_bound(bound).is_ok()
     }
 
-    // Job 1 is the check `wet`, job 2 pumps where it is wet, job 3 grouts, and job 4 seals where it is not wet.
-    fn set_down(rt: &impl Abort, book: &mut Book) {
-        assert!(rt; book.add_check(Label { yes: 0, no: 0 }).is_ok());
-        assert!(rt; book.add_job(Label { yes: 1, no: 0 }).is_ok());
-        assert!(rt; book.add_job(Label { yes: 0, no: 0 }).is_ok());
-        assert!(rt; book.add_job(Label { yes: 0, no: 1 }).is_ok());
-        assert!(rt; bind(book, Kind::Least, 0, 1, 60));
-        assert!(rt; bind(book, Kind::Least, 1, 2, 5));
-        assert!(rt; bind(book, Kind::Least, 2, 3, 90));
-        assert!(rt; bind(book, Kind::Most, 1, 4, 20));
-        assert!(rt; bind(book, Kind::Most, 4, 3, 10));
+    // Job 1 is the check `wet`, job 2 pumps where it is wet, job 3 grouts, and job 4 seals where it is not wet. Whether all was taken.
+    fn set_down(book: &mut Book) -> bool {
+        book.add_check(Label { yes: 0, no: 0 }).is_ok()
+            && book.add_job(Label { yes: 1, no: 0 }).is_ok()
+            && book.add_job(Label { yes: 0, no: 0 }).is_ok()
+            && book.add_job(Label { yes: 0, no: 1 }).is_ok()
+            && bind(book, Kind::Least, 0, 1, 60)
+            && bind(book, Kind::Least, 1, 2, 5)
+            && bind(book, Kind::Least, 2, 3, 90)
+            && bind(book, Kind::Most, 1, 4, 20)
+            && bind(book, Kind::Most, 4, 3, 10)
     }
 
     // A rule as it is expected: so many alternatives, the last of them the place plus the minutes.
@@ -114,7 +113,7 @@ mod tests {
     #[test]
     fn strong_rules(rt: HostRuntime) -> Result<(), Fail> {
         let mut book = Book::new(rt.alloc())?;
-        set_down(&rt, &mut book);
+        assert!(rt; set_down(&mut book));
         let system = Strong::new(&book);
         let rules = [
             rule(1, 0, 60),
@@ -140,7 +139,7 @@ mod tests {
     #[test]
     fn weak_rules(rt: HostRuntime) -> Result<(), Fail> {
         let mut book = Book::new(rt.alloc())?;
-        set_down(&rt, &mut book);
+        assert!(rt; set_down(&mut book));
         let system = Weak::new(&book, 0);
         let rules = [
             rule(1, 0, 60),
@@ -162,7 +161,7 @@ mod tests {
     #[test]
     fn dynamic_rules(rt: HostRuntime) -> Result<(), Fail> {
         let mut book = Book::new(rt.alloc())?;
-        set_down(&rt, &mut book);
+        assert!(rt; set_down(&mut book));
         let system = Dynamic::new(&book);
         let rules = [
             rule(1, 0, 60),
