@@ -1,6 +1,6 @@
+// The book, tried on lists of calls.
 #![tactic(auto)]
 
-// The book, tried on lists of calls.
 #[cfg(test)]
 mod tests {
     use book::list::carry_out;

@@ -1,6 +1,6 @@
+// The reader, tried on a text for each fault of a file.
 #![tactic(auto)]
 
-// The reader, tried on a text for each fault of a file.
 #[cfg(test)]
 mod tests {
     use book::keeping::Book;

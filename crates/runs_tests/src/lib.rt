@@ -1,6 +1,6 @@
+// Runs, tried on a small plan.
 #![tactic(auto)]
 
-// Runs, tried on a small plan.
 #[cfg(test)]
 mod tests {
     use book::list::carry_out;
