@@ -17,30 +17,30 @@ pub struct Carried {
 }
 
 // The answer of a call that adds a job or a check.
-fn job_answer(res: Result<usize, Refusal>) -> Answer
-    ensures { result ≡ answered NewJob res }
+fn job_answer(outcome: Result<usize, Refusal>) -> Answer
+    ensures { result ≡ answered NewJob outcome }
 {
-    match res {
+    match outcome {
         Ok(n) => Answer::NewJob(n),
         Err(refusal) => Answer::Refused(refusal),
     }
 }
 
 // The answer of a call that adds a bound.
-fn bound_answer(res: Result<usize, Refusal>) -> Answer
-    ensures { result ≡ answered NewBound res }
+fn bound_answer(outcome: Result<usize, Refusal>) -> Answer
+    ensures { result ≡ answered NewBound outcome }
 {
-    match res {
+    match outcome {
         Ok(n) => Answer::NewBound(n),
         Err(refusal) => Answer::Refused(refusal),
     }
 }
 
 // The answer of a call that withdraws a bound.
-fn withdraw_answer(res: Result<(), Refusal>) -> Answer
-    ensures { result ≡ answered (λ _. Withdrawn) res }
+fn withdraw_answer(outcome: Result<(), Refusal>) -> Answer
+    ensures { result ≡ answered (λ _. Withdrawn) outcome }
 {
-    match res {
+    match outcome {
         Ok(_) => Answer::Withdrawn,
         Err(refusal) => Answer::Refused(refusal),
     }
