@@ -1,5 +1,6 @@
 -- Laws of the bits of a number.
-use Rattle.std.proofs.Common.{◌≡◌, ℕ, zero, suc, ◌+◌, ◌-◌, ◌/◌, ◌%◌, ◌^◌, ◌<◌, ◌≤◌, min, max, true, eqb, Decides, sym, ap, ◌∙◌, pow-suc, div-le_self, div-one, one-add, arith, pow_mono}
+use Rattle.std.proofs.Common.{◌≡◌, ℕ, zero, suc, ◌+◌, ◌-◌, ◌/◌, ◌%◌, ◌^◌, ◌<◌, ◌≤◌, min, max, true, eqb, Decides, sym, ap, ◌∙◌, pow-suc}
+use Rattle.std.proofs.Common.{div-le_self, div-one, one-add, arith, pow_mono}
 use native.Mathlib.Nat.{zero-div, div-eq_of_lt}
 use native.Mathlib.Decide.{dec_lt}
 use lib.Bits.{bit_and, bit_or, and_step, or_step, and_shr, or_shr, and_lt}

@@ -1,5 +1,6 @@
 -- The plain book stays sound, call by call.
-use Rattle.std.proofs.Common.{◌≡◌, ℕ, ◌+◌, ◌^◌, ◌<◌, ◌≤◌, Bool, true, false, ◌||◌, eqb, leb, List, [], ◌∷◌, ◌++◌, length, get_or, ℤ, pos, neg_ℤ, nat_abs, ◌≤ℤ◌, Some, None, Option, sym, refl, ◌∙◌, subst, inl, inr, arith}
+use Rattle.std.proofs.Common.{◌≡◌, ℕ, ◌+◌, ◌^◌, ◌<◌, ◌≤◌, Bool, true, false, ◌||◌, eqb, leb, List, [], ◌∷◌, ◌++◌, length, get_or, ℤ, pos}
+use Rattle.std.proofs.Common.{neg_ℤ, nat_abs, ◌≤ℤ◌, Some, None, Option, sym, refl, ◌∙◌, subst, inl, inr, arith}
 use native.Mathlib.Decide.{dec_lt}
 use Rattle.std.specs.List.{remove}
 use Rattle.std.proofs.lemmas.List.{get_or_append_left, get_or_push, length_push}
@@ -10,7 +11,8 @@ use Rattle.book.specs.declared.parts.Label.{Label}
 use Rattle.book.specs.declared.parts.Bound.{Bound}
 use Rattle.book.specs.declared.parts.Refusal.{Refusal}
 use Rattle.book.specs.Labels.{Names}
-use Rattle.book.specs.Plain.{Plain, job, checks, asking, no_bound, new_book, empty_label, exclude, one_if_check, with_job, with_bound, without_bound, unless}
+use Rattle.book.specs.Plain.{Plain, job, checks, asking, no_bound, new_book, empty_label, exclude, one_if_check, with_job, with_bound}
+use Rattle.book.specs.Plain.{without_bound, unless}
 use Rattle.book.specs.Plain.{add_job, add_check, add_bound, withdraw, job_refusal, check_refusal, bound_refusal, withdraw_refusal}
 use Rattle.book.specs.Sound.{Sound, SoundJob, SoundBound}
 use Rattle.book.proofs.Bits.{bit_none}

@@ -1,5 +1,6 @@
 -- The plain book: a list of jobs and a list of bounds, and what each call does to them and answers.
-use Rattle.std.specs.Prelude.{ℕ, suc, ◌+◌, ◌^◌, ◌<◌, Bool, false, cond, not, ◌&&◌, ◌||◌, List, [], ◌∷◌, ◌++◌, length, pos, Some, None, Ok, Err, vec_items, Option, Result, ◌==◌, nat_le, slice_index_or, unsigned_abs}
+use Rattle.std.specs.Prelude.{ℕ, suc, ◌+◌, ◌^◌, ◌<◌, Bool, false, cond, not, ◌&&◌, ◌||◌, List, [], ◌∷◌, ◌++◌, length, pos, Some, None, Ok}
+use Rattle.std.specs.Prelude.{Err, vec_items, Option, Result, ◌==◌, nat_le, slice_index_or, unsigned_abs}
 use Rattle.std.specs.List.{remove}
 use Rattle.book.specs.declared.parts.Label.{Label}
 use Rattle.book.specs.declared.parts.Job.{Job}

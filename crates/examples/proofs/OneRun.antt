@@ -1,5 +1,6 @@
 -- The plan's sheet leads to two runs and no other, one for each report.
-use Rattle.std.proofs.Common.{◌≡◌, ℕ, zero, suc, ◌+◌, ◌^◌, ◌<◌, ◌≤◌, Bool, true, false, ◌⊎◌, ◌↔◌, List, [], ◌∷◌, refl, subst, ap₂, inl, inr, pow-suc, arith, pow_mono}
+use Rattle.std.proofs.Common.{◌≡◌, ℕ, zero, suc, ◌+◌, ◌^◌, ◌<◌, ◌≤◌, Bool, true, false, ◌⊎◌, ◌↔◌, List, [], ◌∷◌, refl, subst, ap₂, inl, inr}
+use Rattle.std.proofs.Common.{pow-suc, arith, pow_mono}
 use native.Mathlib.Decide.{ℕ_discrete}
 use Rattle.book.specs.Labels.{bit}
 use Rattle.book.specs.Plain.{Plain}

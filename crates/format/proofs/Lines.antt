@@ -1,5 +1,6 @@
 -- The words of a line: what is read is what is written.
-use Rattle.std.proofs.Common.{◌≡◌, ℕ, ◌+◌, ◌≤◌, Bool, true, false, cond, eqb, List, [], ◌∷◌, map, length, Some, None, Ok, codes, refl, ap, ◌∙◌, subst, arith}
+use Rattle.std.proofs.Common.{◌≡◌, ℕ, ◌+◌, ◌≤◌, Bool, true, false, cond, eqb, List, [], ◌∷◌, map, length, Some, None, Ok, codes, refl, ap}
+use Rattle.std.proofs.Common.{◌∙◌, subst, arith}
 use Rattle.std.proofs.lemmas.Bool.{eqb-true}
 use Rattle.std.proofs.lemmas.Bool.Decides.{not_from_Decides}
 use Rattle.book.specs.declared.parts.Kind.{Kind}
@@ -10,7 +11,8 @@ use Rattle.format.specs.declared.parts.Sign.{Sign}
 use Rattle.format.specs.declared.parts.Sign.TheVariants.{Plus, Minus}
 use Rattle.format.specs.declared.parts.FileFault.TheVariants.{WrongLine, NotANumber, BadName, NameTaken, NameReserved, UnknownName}
 use Rattle.format.specs.Format.{Want, JobLine, BoundLine, Known, Every, SomeOf, NameForm, GoodWant, GoodJob, GoodBound}
-use Rattle.format.specs.Format.{work_word, kind_word, sign_byte, want_word, job_words, bound_words, count_words, reserved_words, same, job_number, check_number}
+use Rattle.format.specs.Format.{work_word, kind_word, sign_byte, want_word, job_words, bound_words, count_words, reserved_words, same}
+use Rattle.format.specs.Format.{job_number, check_number}
 use Rattle.format.specs.Faults.{fault_at, given, among, name_form, work_of, kind_of, sign_of, new_name, job_named, check_named, want_of, wants_of}
 use Rattle.format.specs.Faults.{natural_of, minutes_of, count_of, job_line, bound_line}
 use Rattle.format.proofs.Steps.{no_fault, no_value, same_ok, same_some, then_ok, then_is, given_ok, untaken, passed, spared}

@@ -1,5 +1,6 @@
 -- The faults of a line's words, and of the book, are on that line.
-use Rattle.std.proofs.Common.{◌≡◌, ℕ, ◌+◌, Bool, true, false, cond, leb, List, [], ◌∷◌, length, Some, None, Ok, Err, codes, Option, Result, sym, refl, ap, ◌∙◌}
+use Rattle.std.proofs.Common.{◌≡◌, ℕ, ◌+◌, Bool, true, false, cond, leb, List, [], ◌∷◌, length, Some, None, Ok, Err, codes, Option, Result}
+use Rattle.std.proofs.Common.{sym, refl, ap, ◌∙◌}
 use Rattle.book.specs.declared.parts.Refusal.{Refusal}
 use Rattle.book.specs.Plain.{Plain}
 use Rattle.format.specs.declared.parts.FileFault.{FileFault}

@@ -1,5 +1,6 @@
 -- What is read is well formed, the book takes it, and its writing-out is the text.
-use Rattle.std.proofs.Common.{◌≡◌, ℕ, zero, suc, ◌+◌, ◌≤◌, leb, List, [], ◌∷◌, ◌++◌, map, length, Ok, codes, Result, sym, refl, ap, ◌∙◌, subst, append_assoc, append-nil}
+use Rattle.std.proofs.Common.{◌≡◌, ℕ, zero, suc, ◌+◌, ◌≤◌, leb, List, [], ◌∷◌, ◌++◌, map, length, Ok, codes, Result, sym, refl, ap, ◌∙◌}
+use Rattle.std.proofs.Common.{subst, append_assoc, append-nil}
 use Rattle.std.proofs.lemmas.Bool.{leb-true}
 use Rattle.book.specs.Plain.{Plain}
 use Rattle.format.specs.declared.parts.FileFault.TheVariants.{TooLong, Unfinished, Trailing, NamesShort}

@@ -1,5 +1,6 @@
 -- A plan text by its form: its lines, their words, its bytes, and what a well-formed one keeps.
-use Rattle.std.specs.Prelude.{◌≡◌, ℕ, ◌+◌, ◌<◌, ◌≤◌, Bool, true, false, cond, ◌&&◌, ◌⊎◌, List, [], ◌∷◌, ◌++◌, map, length, ℤ, Some, None, codes, decimal, Option, ◌==◌, slice_index_or, unsigned_abs}
+use Rattle.std.specs.Prelude.{◌≡◌, ℕ, ◌+◌, ◌<◌, ◌≤◌, Bool, true, false, cond, ◌&&◌, ◌⊎◌, List, [], ◌∷◌, ◌++◌, map, length, ℤ, Some, None}
+use Rattle.std.specs.Prelude.{codes, decimal, Option, ◌==◌, slice_index_or, unsigned_abs}
 use Rattle.std.specs.Fmt.{signed_decimal}
 use Rattle.book.specs.declared.parts.Kind.{Kind}
 use Rattle.book.specs.declared.parts.Kind.TheVariants.{Least, Most}

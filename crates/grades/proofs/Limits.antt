@@ -1,5 +1,6 @@
 -- The three systems are rule systems: few places, rules and alternatives, and no more minutes than a bound may have.
-use Rattle.std.proofs.Common.{ℕ, zero, suc, ◌*◌, ◌<◌, ◌≤◌, Bool, true, false, not, eqb, List, [], ◌∷◌, ◌++◌, map, length, ℤ, pos, neg_ℤ, ◌≤ℤ◌, mul-le-mul_right, suc-mul, arith, length-append, pow_mono}
+use Rattle.std.proofs.Common.{ℕ, zero, suc, ◌*◌, ◌<◌, ◌≤◌, Bool, true, false, not, eqb, List, [], ◌∷◌, ◌++◌, map, length, ℤ, pos, neg_ℤ}
+use Rattle.std.proofs.Common.{◌≤ℤ◌, mul-le-mul_right, suc-mul, arith, length-append, pow_mono}
 use lib.Arith.{digits_lt}
 use lib.ListN.{length-map}
 use Rattle.std.proofs.lemmas.Nat.{pow_pos}
@@ -19,7 +20,8 @@ use Rattle.grades.specs.declared.holds.Hold.{Hold}
 use Rattle.grades.specs.Systems.{each_below, when, due, hold_of, bound_hold, start_hold, check_hold}
 use Rattle.grades.specs.Systems.{bound_holds, start_holds, check_holds_of, check_holds}
 use Rattle.grades.specs.Systems.{holds, holds_in, rule_of, weak_rules, case_rules, place, telling, tells_apart, both_do}
-use Rattle.grades.specs.Systems.{unknown_rule, unknown_between, unknown_from, unknown_rules, dynamic_rules, strong_system, weak_system, dynamic_system}
+use Rattle.grades.specs.Systems.{unknown_rule, unknown_between, unknown_from, unknown_rules, dynamic_rules, strong_system, weak_system}
+use Rattle.grades.specs.Systems.{dynamic_system}
 use Rattle.grades.specs.Theorems.{SystemsSound}
 use Rattle.grades.proofs.Lists.{Every, every_at, every_append, every_below, every_when}
 

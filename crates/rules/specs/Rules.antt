@@ -1,5 +1,6 @@
 -- Rule systems, and what it is for a table of minutes to keep their rules.
-use Rattle.std.specs.Prelude.{◌≡◌, ℕ, zero, suc, ◌<◌, ◌≤◌, List, [], ◌∷◌, length, pos, ◌+ℤ◌, neg_ℤ, ◌≤ℤ◌, Some, None, Option, slice_index, slice_index_or}
+use Rattle.std.specs.Prelude.{◌≡◌, ℕ, zero, suc, ◌<◌, ◌≤◌, List, [], ◌∷◌, length, pos, ◌+ℤ◌, neg_ℤ, ◌≤ℤ◌, Some, None, Option, slice_index}
+use Rattle.std.specs.Prelude.{slice_index_or}
 use Rattle.rules.specs.declared.parts.Alternative.{Alternative}
 
 -- a rule holds back one place, and is kept by any one of its alternatives

@@ -1,5 +1,6 @@
 -- The words of the search for the least table: raising places round by round, with a record of the rule that raised each.
-use Rattle.std.specs.Prelude.{◌≡◌, ℕ, suc, ◌+◌, ◌-◌, ◌*◌, ◌<◌, ◌≤◌, Bool, true, false, List, length, ℤ, pos, negsuc, Some, None, sum, count_by, Option, slice_index_or, slice_set}
+use Rattle.std.specs.Prelude.{◌≡◌, ℕ, suc, ◌+◌, ◌-◌, ◌*◌, ◌<◌, ◌≤◌, Bool, true, false, List, length, ℤ, pos, negsuc, Some, None, sum}
+use Rattle.std.specs.Prelude.{count_by, Option, slice_index_or, slice_set}
 use Rattle.rules.specs.declared.parts.Alternative.{Alternative}
 use Rattle.rules.specs.Rules.{Rule, System, Kept, Keeps, at, rule, alternative}
 

@@ -1,5 +1,6 @@
 -- What a run keeps in its type from one call to the next.
-use Rattle.std.proofs.Common.{◌≡◌, ℕ, ◌+◌, ◌-◌, ◌*◌, ◌<◌, ◌≤◌, List, ◌∷◌, length, take, drop, Some, None, Option, sym, ap, ◌∙◌, subst, arith, length-drop, length-take}
+use Rattle.std.proofs.Common.{◌≡◌, ℕ, ◌+◌, ◌-◌, ◌*◌, ◌<◌, ◌≤◌, List, ◌∷◌, length, take, drop, Some, None, Option, sym, ap, ◌∙◌, subst}
+use Rattle.std.proofs.Common.{arith, length-drop, length-take}
 use mathlib.Core.Logic.{∥∥₁_elim}
 use Rattle.book.specs.declared.parts.Job.{Job}
 use Rattle.book.specs.Held.{held_sound}

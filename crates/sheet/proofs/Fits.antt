@@ -1,23 +1,28 @@
 -- How long a sheet can be: its names have at most 8 letters, its minutes at most 10 digits.
-use Rattle.std.proofs.Common.{◌≡◌, ℕ, zero, suc, ◌+◌, ◌*◌, ◌^◌, ◌<◌, ◌≤◌, Bool, true, false, List, length, get_or, drop, ℤ, pos, negsuc, decimal, add-one, arith, length-append, length-take}
+use Rattle.std.proofs.Common.{◌≡◌, ℕ, zero, suc, ◌+◌, ◌*◌, ◌^◌, ◌<◌, ◌≤◌, Bool, true, false, List, length, get_or, drop, ℤ, pos, negsuc}
+use Rattle.std.proofs.Common.{decimal, add-one, arith, length-append, length-take}
 use lib.Signed.{mag}
 use Rattle.std.proofs.lemmas.Fmt.{length-decimal-le}
 use Rattle.format.specs.declared.parts.NamePlace.{NamePlace}
 use Rattle.format.specs.declared.parts.Fault.{Fault}
 use Rattle.format.specs.declared.parts.FileFault.{FileFault}
-use Rattle.format.specs.declared.parts.FileFault.TheVariants.{TooLong, Unfinished, WrongLine, NotANumber, BadName, NameTaken, NameReserved, UnknownName, Trailing, NamesShort}
+use Rattle.format.specs.declared.parts.FileFault.TheVariants.{TooLong, Unfinished, WrongLine, NotANumber, BadName, NameTaken, NameReserved}
+use Rattle.format.specs.declared.parts.FileFault.TheVariants.{UnknownName, Trailing, NamesShort}
 use Rattle.format.specs.declared.parts.Reason.{Reason}
 use Rattle.format.specs.declared.parts.Reason.TheVariants.{File, Book}
 use Rattle.format.specs.Faults.{file_number, reason_number}
 use Rattle.book.specs.declared.parts.Refusal.{Refusal}
-use Rattle.book.specs.declared.parts.Refusal.TheVariants.{JobsFull, ChecksFull, UnknownCheck, BothWays, PartMissing, UnknownJob, MinutesBeyond, SameJob, Exclusive, BoundsFull, UnknownBound}
+use Rattle.book.specs.declared.parts.Refusal.TheVariants.{JobsFull, ChecksFull, UnknownCheck, BothWays, PartMissing, UnknownJob}
+use Rattle.book.specs.declared.parts.Refusal.TheVariants.{MinutesBeyond, SameJob, Exclusive, BoundsFull, UnknownBound}
 use Rattle.book.specs.Plain.{Plain, asking, number}
 use Rattle.book.specs.Sound.{Sound}
 use Rattle.rules.specs.declared.parts.Origin.{Origin}
 use Rattle.rules.specs.declared.parts.Origin.TheVariants.{Bound, Start, Check}
 use Rattle.sheet.specs.declared.grade.Grade.{Grade}
 use Rattle.sheet.specs.declared.grade.Grade.TheVariants.{Strong, Dynamic, Weak}
-use Rattle.sheet.specs.Sheet.{layer_word, fault_line, answer_word, verdict_lines, grade_word, job_line, job_lines, jobs_done, one_if_done, row_of, case_lines, cases_lines, table_lines, Within, origin_line, origin_lines, loop_lines, no_place, name_of, Named}
+use Rattle.sheet.specs.Sheet.{layer_word, fault_line, answer_word, verdict_lines, grade_word, job_line, job_lines, jobs_done, one_if_done}
+use Rattle.sheet.specs.Sheet.{row_of, case_lines, cases_lines, table_lines, Within, origin_line, origin_lines, loop_lines, no_place}
+use Rattle.sheet.specs.Sheet.{name_of, Named}
 
 pub digits_2 : (n : ℕ) → n < 100 → length (decimal n) ≤ 2
 digits_2 n h = length-decimal-le 2 n (omega arith) h (omega arith)

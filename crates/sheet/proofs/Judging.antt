@@ -1,5 +1,6 @@
 -- The three verdicts together.
-use Rattle.std.proofs.Common.{◌≡◌, ℕ, zero, suc, ◌*◌, ◌<◌, ◌≤◌, Bool, true, false, List, [], ◌∷◌, ◌++◌, map, length, get_or, take, drop, ℤ, refl, ap, ◌∙◌, suc-mul, mul-le-mul, arith, length-append}
+use Rattle.std.proofs.Common.{◌≡◌, ℕ, zero, suc, ◌*◌, ◌<◌, ◌≤◌, Bool, true, false, List, [], ◌∷◌, ◌++◌, map, length, get_or, take, drop, ℤ}
+use Rattle.std.proofs.Common.{refl, ap, ◌∙◌, suc-mul, mul-le-mul, arith, length-append}
 use lib.ListN.{length-map}
 use Rattle.std.proofs.lemmas.List.{take_at}
 use Rattle.book.specs.Plain.{Plain, cases}

@@ -11,7 +11,8 @@ use Rattle.rules.specs.Rules.{System}
 use Rattle.rules.specs.Loops.{Loop, Chain, way}
 use Rattle.find.specs.Answers.{origin_of}
 use Rattle.grades.specs.declared.holds.Hold.{Hold}
-use Rattle.grades.specs.Systems.{when, due, hold_of, bound_hold, start_hold, check_hold, bound_holds, start_holds, check_holds_of, check_holds, holds, holds_in, rule_of, origins_of, weak_origins, weak_system}
+use Rattle.grades.specs.Systems.{when, due, hold_of, bound_hold, start_hold, check_hold, bound_holds, start_holds, check_holds_of}
+use Rattle.grades.specs.Systems.{check_holds, holds, holds_in, rule_of, origins_of, weak_origins, weak_system}
 use Rattle.grades.proofs.Lists.{Every, every_append, every_below, every_when}
 use Rattle.sheet.specs.Sheet.{Within}
 

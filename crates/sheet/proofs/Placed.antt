@@ -1,5 +1,6 @@
 -- The names of a plan that is read: there is one for each job but `start`, it stands in the text, and it has at most 8 letters.
-use Rattle.std.proofs.Common.{◌≡◌, ℕ, zero, suc, ◌+◌, ◌<◌, ◌≤◌, List, [], ◌∷◌, ◌++◌, map, length, get_or, Some, None, Ok, codes, decimal, Option, sym, refl, ap, ◌∙◌, subst, append-nil, add-one, arith, length-append}
+use Rattle.std.proofs.Common.{◌≡◌, ℕ, zero, suc, ◌+◌, ◌<◌, ◌≤◌, List, [], ◌∷◌, ◌++◌, map, length, get_or, Some, None, Ok, codes, decimal}
+use Rattle.std.proofs.Common.{Option, sym, refl, ap, ◌∙◌, subst, append-nil, add-one, arith, length-append}
 use Rattle.std.proofs.lemmas.List.{length_push}
 use Rattle.book.specs.declared.parts.Kind.{Kind}
 use Rattle.book.specs.declared.parts.Kind.TheVariants.{Least, Most}
@@ -10,8 +11,10 @@ use Rattle.book.specs.Plain.{Plain, unless, new_book, checks, with_job, with_bou
 use Rattle.format.specs.declared.parts.NamePlace.{NamePlace}
 use Rattle.format.specs.declared.parts.Work.{Work}
 use Rattle.format.specs.declared.parts.Work.TheVariants.{Job, Check}
-use Rattle.format.specs.Format.{JobLine, BoundLine, PlanText, Known, at_first, after, after_all, work_word, kind_word, want_word, job_words, bound_words, count_words, plan_lines, spaced, ended, written, Every, WellFormed, GoodJobs, GoodBound}
-use Rattle.format.specs.Entered.{Accepts, add, label_in, bound_in, call_job, call_bound, book_after_jobs, book_after_bounds, book_of, TakesJobs, BookTakes}
+use Rattle.format.specs.Format.{JobLine, BoundLine, PlanText, Known, at_first, after, after_all, work_word, kind_word, want_word, job_words}
+use Rattle.format.specs.Format.{bound_words, count_words, plan_lines, spaced, ended, written, Every, WellFormed, GoodJobs, GoodBound}
+use Rattle.format.specs.Entered.{Accepts, add, label_in, bound_in, call_job, call_bound, book_after_jobs, book_after_bounds, book_of}
+use Rattle.format.specs.Entered.{TakesJobs, BookTakes}
 use Rattle.format.specs.Faults.{Reading, outcome, cut, work_of, if_work, line_name, job_names, names_of}
 use Rattle.format.proofs.Cuts.{cut_spaced, cut_ended}
 use Rattle.format.proofs.Inks.{Inky, jobs_inky, bounds_inky, job_inky, bound_inky, count_inky, frees, free_lines, all_jobs, all_bounds}

@@ -4,7 +4,8 @@ ghost use Rattle.book.specs.Plain.{asking, checks};
 ghost use Rattle.book.specs.Held.{held};
 ghost use Rattle.rules.specs.declared.parts.Origin.TheVariants.{Bound as OfBound};
 ghost use Rattle.sheet.specs.Sheet.{line, strongest, verdict_lines, origin_line, origin_lines, loop_lines, Within};
-ghost use Rattle.sheet.specs.Sheet.{layer_word, fault_line, verdict_line, grade_word, answer_word, job_line, job_lines, jobs_done, case_lines, cases_lines, table_lines, name_of, Named};
+ghost use Rattle.sheet.specs.Sheet.{layer_word, fault_line, verdict_line, grade_word, answer_word, job_line, job_lines, jobs_done};
+ghost use Rattle.sheet.specs.Sheet.{case_lines, cases_lines, table_lines, name_of, Named};
 
 use crate::grade::Grade;
 use crate::names::name;

@@ -1,7 +1,10 @@
 -- The minutes list, filled case by case.
-use Rattle.std.proofs.Common.{◌≡◌, ℕ, zero, suc, ◌+◌, ◌-◌, ◌*◌, ◌<◌, ◌≤◌, Bool, cond, List, [], ◌∷◌, ◌++◌, map, length, get_or, take, drop, set, replicate, ℤ, pos, negsuc, Decides, sym, refl, ap, ◌∙◌, ⊎_elim, append_assoc, append-nil, add-zero, suc-mul, zero-mul, add-one, arith, length-append, length-drop}
+use Rattle.std.proofs.Common.{◌≡◌, ℕ, zero, suc, ◌+◌, ◌-◌, ◌*◌, ◌<◌, ◌≤◌, Bool, cond, List, [], ◌∷◌, ◌++◌, map, length, get_or, take, drop}
+use Rattle.std.proofs.Common.{set, replicate, ℤ, pos, negsuc, Decides, sym, refl, ap, ◌∙◌, ⊎_elim, append_assoc, append-nil, add-zero}
+use Rattle.std.proofs.Common.{suc-mul, zero-mul, add-one, arith, length-append, length-drop}
 use lib.ListN.{length-map}
-use Rattle.std.proofs.lemmas.List.{take-append-drop, drop_all, drop_more, set_at, take_at, drop_at, drop-drop, length-take-le, get_or_append_left, get_or-append_right, get_or-map, get_or_past, drop-replicate}
+use Rattle.std.proofs.lemmas.List.{take-append-drop, drop_all, drop_more, set_at, take_at, drop_at, drop-drop, length-take-le}
+use Rattle.std.proofs.lemmas.List.{get_or_append_left, get_or-append_right, get_or-map, get_or_past, drop-replicate}
 use Rattle.std.proofs.lemmas.Bool.{cases_lt}
 use borrow.Rule.Slice.PartMut.{put_mid}
 use Rattle.std.proofs.lemmas.Bool.Decides.{same_from_decides}

@@ -1,5 +1,7 @@
 -- From the tables of a grade's rules to its strategies, as the minutes list has them.
-use Rattle.std.proofs.Common.{◌≡◌, ℕ, suc, ◌+◌, ◌*◌, ◌<◌, ◌≤◌, cond, eqb, List, [], ◌∷◌, ◌++◌, map, length, get_or, take, drop, replicate, ℤ, pos, negsuc, Ok, Result, sym, ap, ◌∙◌, subst, ⊎_elim, mul-le-mul_right, suc-mul, mul-le-mul, mul-zero, zero-add, arith, pow_mono}
+use Rattle.std.proofs.Common.{◌≡◌, ℕ, suc, ◌+◌, ◌*◌, ◌<◌, ◌≤◌, cond, eqb, List, [], ◌∷◌, ◌++◌, map, length, get_or, take, drop, replicate}
+use Rattle.std.proofs.Common.{ℤ, pos, negsuc, Ok, Result, sym, ap, ◌∙◌, subst, ⊎_elim, mul-le-mul_right, suc-mul, mul-le-mul, mul-zero}
+use Rattle.std.proofs.Common.{zero-add, arith, pow_mono}
 use lib.ListN.{length-map}
 use Rattle.std.proofs.lemmas.List.{get_or_append_left, get_or-map, get_or-take, get_or-drop}
 use Rattle.std.proofs.lemmas.Bool.{cases_lt}

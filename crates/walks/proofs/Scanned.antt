@@ -1,5 +1,6 @@
 -- One job more of a row of minutes.
-use Rattle.std.proofs.Common.{◌≡◌, ℕ, ◌+◌, ◌*◌, ◌%◌, ◌^◌, ◌<◌, ◌≤◌, Bool, true, false, cond, ltb, leb, ◌⊎◌, List, get_or, ℤ, pos, Some, None, Option, sym, refl, ◌∙◌, subst, inl, inr, arith, ltb-false, ltb-true, leb-false, leb-true}
+use Rattle.std.proofs.Common.{◌≡◌, ℕ, ◌+◌, ◌*◌, ◌%◌, ◌^◌, ◌<◌, ◌≤◌, Bool, true, false, cond, ltb, leb, ◌⊎◌, List, get_or, ℤ, pos, Some}
+use Rattle.std.proofs.Common.{None, Option, sym, refl, ◌∙◌, subst, inl, inr, arith, ltb-false, ltb-true, leb-false, leb-true}
 use native.Mathlib.Decide.{ℕ_discrete}
 use lib.Bits.{bit_or}
 use Rattle.std.proofs.lemmas.Nat.{one_shl}
