@@ -7,7 +7,8 @@ use Rattle.book.specs.declared.parts.Job.{Job}
 use Rattle.book.specs.Plain.{is_check, one_if_check, checks_among, place_of_check}
 use Rattle.book.proofs.Tests.{differ}
 
-pub count_on : (xs : List Job) (i : ℕ) (d : Job) → i < length xs → checks_among (drop i xs) ≡ one_if_check (get_or xs i d).check + checks_among (drop (i + 1) xs)
+pub count_on : (xs : List Job) (i : ℕ) (d : Job) → i < length xs →
+    checks_among (drop i xs) ≡ one_if_check (get_or xs i d).check + checks_among (drop (i + 1) xs)
 count_on xs i d h = at_drop_more checks_among xs i d h
 
 pub one_some : (o : Option ℕ) → option_is_some o ≡ true → one_if_check o ≡ 1

@@ -61,7 +61,8 @@ zero_way : (t : Bool) (v n : ℕ) → Some n ≡ cond t (Some v) None → n ≡ 
 zero_way true v n e h = let s : n ≡ v = same_some n v e in rw (eq-eqb v 0 (sym s ∙ h)) refl
 zero_way false v n e h = refl
 
-pub zero_minutes : (w : List ℕ) (n : ℕ) → 1 ≤ length w → get_or w 0 0 ≡ 45 → Some n ≡ natural_of 5 (take (length w - 1) (drop 1 w)) → n ≡ 0 → None ≡ minutes_of w
+pub zero_minutes : (w : List ℕ) (n : ℕ) → 1 ≤ length w → get_or w 0 0 ≡ 45 → Some n ≡ natural_of 5 (take (length w - 1) (drop 1 w)) → n ≡ 0 →
+    None ≡ minutes_of w
 zero_minutes [] n h d e z = absurd (omega arith)
 zero_minutes (c ∷ cs) n h d e z =
     let e2 : Some n ≡ natural_of 5 cs = e ∙ ap (natural_of 5) (take_rest (c ∷ cs) 1) in

@@ -78,7 +78,8 @@ grade_fits Strong = omega arith
 grade_fits Dynamic = omega arith
 grade_fits Weak = omega arith
 
-pub table_fits : (g : Grade) (name : ℕ → List ℕ) (jobs : ℕ) (minutes : List ℤ) (cases : ℕ) → cases ≤ 16 → length (cases_lines name jobs minutes cases) ≤ 416 * cases
+pub table_fits : (g : Grade) (name : ℕ → List ℕ) (jobs : ℕ) (minutes : List ℤ) (cases : ℕ) → cases ≤ 16 →
+    length (cases_lines name jobs minutes cases) ≤ 416 * cases
     → length (table_lines g name jobs minutes cases) ≤ 6679
 table_fits g name jobs minutes cases l lines =
     let a = digits_2 cases (omega arith) in

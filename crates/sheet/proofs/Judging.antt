@@ -32,7 +32,8 @@ each_one zero f = refl
 each_one (suc n) f = omega (arith, length-append (each_below n (λ i. f i ∷ [])) (f n ∷ []), each_one n f)
 
 listed_length : (b : Plain) (minute : Minutes) → length (listed b minute) ≡ size b
-listed_length b minute = each_length (cases b) (length b.jobs) (λ s. each_below (length b.jobs) (λ j. shown b minute s j ∷ [])) (λ s. each_one (length b.jobs) (shown b minute s))
+listed_length b minute = each_length (cases b) (length b.jobs) (λ s. each_below (length b.jobs) (λ j. shown b minute s j ∷ []))
+    (λ s. each_one (length b.jobs) (shown b minute s))
 
 pub filled : (b : Plain) (g : Grade) (before after : List ℤ) → ListsEarliest b (good b g) before after → Holds b g after
 filled b g before after h =

@@ -28,13 +28,16 @@ holds_known b =
     every_append (KnownHold b) (bound_holds b) (start_holds b ++ check_holds b)
     (every_below (KnownHold b) (length b.bounds) (λ n. bound_hold b n ∷ []) (λ i h. (bound_known b (bound b i).kind i h, tt)))
     (every_append (KnownHold b) (start_holds b) (check_holds b)
-    (every_below (KnownHold b) (length b.jobs) (λ j. when (not (eqb j 0)) (start_hold j ∷ [])) (λ j h. every_when (KnownHold b) (not (eqb j 0)) (start_hold j) (λ t. h)))
+    (every_below (KnownHold b) (length b.jobs) (λ j. when (not (eqb j 0)) (start_hold j ∷ []))
+    (λ j h. every_when (KnownHold b) (not (eqb j 0)) (start_hold j) (λ t. h)))
     (every_below (KnownHold b) (length b.jobs) (check_holds_of b) (λ j h.
-    every_below (KnownHold b) (checks b) (λ c. when (names (job b j).label c) (check_hold b j c ∷ [])) (λ c l. every_when (KnownHold b) (names (job b j).label c) (check_hold b j c) (λ t. (l, h))))))
+    every_below (KnownHold b) (checks b) (λ c. when (names (job b j).label c) (check_hold b j c ∷ []))
+    (λ c l. every_when (KnownHold b) (names (job b j).label c) (check_hold b j c) (λ t. (l, h))))))
 
 in_known : (b : Plain) (s : ℕ) (hs : List Hold) → Every (KnownHold b) hs → Every (KnownHold b) (holds_in b s hs)
 in_known b s [] e = tt
-in_known b s (h ∷ hs) e = every_append (KnownHold b) (when (due b s h) (h ∷ [])) (holds_in b s hs) (every_when (KnownHold b) (due b s h) h (λ t. e.0)) (in_known b s hs e.1)
+in_known b s (h ∷ hs) e = every_append (KnownHold b) (when (due b s h) (h ∷ [])) (holds_in b s hs) (every_when (KnownHold b) (due b s h) h (λ t. e.0))
+    (in_known b s hs e.1)
 
 known_at : (b : Plain) (hs : List Hold) (r : ℕ) → r < length hs → Every (KnownHold b) hs → Within b (origin_of (origins_of hs) r)
 known_at b [] r h e = absurd (omega arith)

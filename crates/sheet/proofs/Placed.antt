@@ -38,7 +38,8 @@ kind_unknown : (k : Kind) (p : NamePlace) → if_work (work_of (kind_word k)) p 
 kind_unknown Least p = refl
 kind_unknown Most p = refl
 
-job_named : (b : ℕ) (ks : List Known) (j : JobLine) → Every Inky (job_words j) → line_name b (cut 32 (spaced (job_words j))) ≡ record { byte = b + length (work_word j.work) + 1; length = length j.name } ∷ []
+job_named : (b : ℕ) (ks : List Known) (j : JobLine) → Every Inky (job_words j) →
+    line_name b (cut 32 (spaced (job_words j))) ≡ record { byte = b + length (work_word j.work) + 1; length = length j.name } ∷ []
 job_named b ks j i = rw (cut_spaced _ _ (frees 32 (job_words j) (omega arith) i)) (work_known j.work _)
 
 bound_unnamed : (b : ℕ) (x : BoundLine) → Every Inky (bound_words x) → line_name b (cut 32 (spaced (bound_words x))) ≡ []
@@ -48,17 +49,21 @@ bounds_unnamed : (ks : List Known) (bs : List BoundLine) (b : ℕ) → Every (Go
 bounds_unnamed ks [] b g = refl
 bounds_unnamed ks (x ∷ bs) b g = rw (bound_unnamed b x (bound_inky ks x g.0)) (bounds_unnamed ks bs (b + length (spaced (bound_words x)) + 1) g.1)
 
-jobs_named : (js : List JobLine) (b : ℕ) (ks : List Known) (rest : List (List ℕ)) → GoodJobs ks js → job_names b (map spaced (map job_words js) ++ rest) ≡ places b js ++ job_names (past b js) rest
+jobs_named : (js : List JobLine) (b : ℕ) (ks : List Known) (rest : List (List ℕ)) → GoodJobs ks js →
+    job_names b (map spaced (map job_words js) ++ rest) ≡ places b js ++ job_names (past b js) rest
 jobs_named [] b ks rest g = refl
 jobs_named (j ∷ js) b ks rest g =
     rw (job_named b ks j (job_inky ks j g.0))
-    (ap (λ t. record { byte = b + length (work_word j.work) + 1; length = length j.name } ∷ t) (jobs_named js (b + length (spaced (job_words j)) + 1) (after ks j) rest g.1))
+    (ap (λ t. record { byte = b + length (work_word j.work) + 1; length = length j.name } ∷ t)
+    (jobs_named js (b + length (spaced (job_words j)) + 1) (after ks j) rest g.1))
 
 jobs_count_unnamed : (b n : ℕ) → n ≤ 99 → line_name b (cut 32 (spaced (count_words (codes "jobs") n))) ≡ []
-jobs_count_unnamed b n h = rw (cut_spaced (codes "jobs") (decimal n ∷ []) (frees 32 (count_words (codes "jobs") n) (omega arith) (count_inky (codes "jobs") n jobs_inky h))) refl
+jobs_count_unnamed b n h = rw (cut_spaced (codes "jobs") (decimal n ∷ [])
+    (frees 32 (count_words (codes "jobs") n) (omega arith) (count_inky (codes "jobs") n jobs_inky h))) refl
 
 bounds_count_unnamed : (b n : ℕ) → n ≤ 99 → line_name b (cut 32 (spaced (count_words (codes "bounds") n))) ≡ []
-bounds_count_unnamed b n h = rw (cut_spaced (codes "bounds") (decimal n ∷ []) (frees 32 (count_words (codes "bounds") n) (omega arith) (count_inky (codes "bounds") n bounds_inky h))) refl
+bounds_count_unnamed b n h = rw
+    (cut_spaced (codes "bounds") (decimal n ∷ []) (frees 32 (count_words (codes "bounds") n) (omega arith) (count_inky (codes "bounds") n bounds_inky h))) refl
 
 -- the first job line begins after the line of the jobs count
 abbrev pub first_job : PlanText → ℕ
@@ -70,11 +75,19 @@ names_are room p w =
     let bs = p.bounds in
     let head = count_words (codes "jobs") (length js) in
     let middle = count_words (codes "bounds") (length bs) in
-    let inky : Every (Every Inky) (plan_lines p) = (count_inky (codes "jobs") (length js) jobs_inky w.few_jobs, all_jobs at_first js (middle ∷ map bound_words bs) w.jobs_good (count_inky (codes "bounds") (length bs) bounds_inky w.few_bounds, all_bounds (after_all at_first js) bs w.bounds_good)) in
+    let inky : Every (Every Inky) (plan_lines p) = (
+      count_inky (codes "jobs") (length js) jobs_inky w.few_jobs,
+      all_jobs at_first js (middle ∷ map bound_words bs) w.jobs_good
+          (count_inky (codes "bounds") (length bs) bounds_inky w.few_bounds, all_bounds (after_all at_first js) bs w.bounds_good),
+    ) in
     let tail = spaced middle ∷ (map spaced (map bound_words bs) ++ ([] ∷ [])) in
-    let lines : cut 10 (written p) ≡ spaced head ∷ (map spaced (map job_words js) ++ tail) = cut_ended (plan_lines p) (free_lines (plan_lines p) inky) ∙ ap (λ t. spaced head ∷ t) (pieces (map job_words js) (map bound_words bs) middle) in
-    let none : job_names (past (first_job p) js) tail ≡ [] = rw (bounds_count_unnamed (past (first_job p) js) (length bs) w.few_bounds) (bounds_unnamed (after_all at_first js) bs (past (first_job p) js + length (spaced middle) + 1) w.bounds_good) in
-    ap (job_names 0) lines ∙ rw (jobs_count_unnamed 0 (length js) w.few_jobs) (jobs_named js (first_job p) at_first tail w.jobs_good ∙ rw none (append-nil (places (first_job p) js)))
+    let lines : cut 10 (written p) ≡ spaced head ∷ (map spaced (map job_words js) ++ tail) =
+    cut_ended (plan_lines p) (free_lines (plan_lines p) inky) ∙ ap (λ t. spaced head ∷ t) (pieces (map job_words js) (map bound_words bs) middle) in
+    let none : job_names (past (first_job p) js) tail ≡ [] =
+    rw (bounds_count_unnamed (past (first_job p) js) (length bs) w.few_bounds)
+    (bounds_unnamed (after_all at_first js) bs (past (first_job p) js + length (spaced middle) + 1) w.bounds_good) in
+    ap (job_names 0) lines ∙ rw (jobs_count_unnamed 0 (length js) w.few_jobs)
+    (jobs_named js (first_job p) at_first tail w.jobs_good ∙ rw none (append-nil (places (first_job p) js)))
 
 -- each name lies within the lines of the jobs
 past_grows : (js : List JobLine) (b : ℕ) → past b js ≡ b + length (ended (map job_words js))
@@ -166,6 +179,7 @@ names_counted room text s e =
     let w = r.writes.well_formed in
     let jobs : length s.book.jobs ≡ suc (length p.jobs) = ap (λ x. length x.book.jobs) (sym r.is) ∙ jobs_counted p r.writes.taken in
     let count : length (names_of (written p)) ≡ length p.jobs = ap length (names_are room p w) ∙ places_long p.jobs (first_job p) in
-    let named : Named text (names_of text) (suc (length p.jobs)) = subst (λ t. Named t (names_of t) (suc (length p.jobs))) (sym r.writes.text) (all_named room p w) in
+    let named : Named text (names_of text) (suc (length p.jobs)) =
+    subst (λ t. Named t (names_of t) (suc (length p.jobs))) (sym r.writes.text) (all_named room p w) in
     let long : length (names_of text) ≡ length p.jobs = ap (λ t. length (names_of t)) r.writes.text ∙ count in
     (subst (λ n. Named text (names_of text) n) (sym jobs) named, omega (arith, jobs, long))

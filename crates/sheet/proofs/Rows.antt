@@ -36,19 +36,25 @@ pub fewer_named : {text : List ℕ} {places : List NamePlace} {m n : ℕ} → Na
 fewer_named h l = record { enough = omega (arith, h.enough); each = λ j b. h.each j (omega arith) }
 
 -- a name, then the rest of its line
-pub then_minute : (page name : List ℕ) (z : ℤ) (one two rest : List ℕ) → pos 0 ≤ℤ z → one ≡ page ++ name → rest ≡ codes " " ++ (signed_decimal z ++ codes "\n") → two ≡ one ++ rest → two ≡ page ++ job_line name z
-then_minute page name z one two rest h a b c = rw (is_done name z h) (joins page name (codes " " ++ (signed_decimal z ++ codes "\n")) one two a (c ∙ ap (λ t. one ++ t) b))
+pub then_minute : (page name : List ℕ) (z : ℤ) (one two rest : List ℕ) → pos 0 ≤ℤ z → one ≡ page ++ name →
+    rest ≡ codes " " ++ (signed_decimal z ++ codes "\n") → two ≡ one ++ rest → two ≡ page ++ job_line name z
+then_minute page name z one two rest h a b c =
+    rw (is_done name z h) (joins page name (codes " " ++ (signed_decimal z ++ codes "\n")) one two a (c ∙ ap (λ t. one ++ t) b))
 
 -- one job more
-pub one_more : (name : ℕ → List ℕ) (row : List ℤ) (i : ℕ) (page one two n : List ℕ) (z : ℤ) → one ≡ page ++ job_lines name row i → n ≡ name i → z ≡ get_or row i (pos 0) → two ≡ one ++ job_line n z → two ≡ page ++ job_lines name row (i + 1)
-one_more name row i page one two n z a p q b = rw (add-one i) (joins page (job_lines name row i) (job_line (name i) (get_or row i (pos 0))) one two a (rw (p, q) at b))
+pub one_more : (name : ℕ → List ℕ) (row : List ℤ) (i : ℕ) (page one two n : List ℕ) (z : ℤ) → one ≡ page ++ job_lines name row i → n ≡ name i →
+    z ≡ get_or row i (pos 0) → two ≡ one ++ job_line n z → two ≡ page ++ job_lines name row (i + 1)
+one_more name row i page one two n z a p q b =
+    rw (add-one i) (joins page (job_lines name row i) (job_line (name i) (get_or row i (pos 0))) one two a (rw (p, q) at b))
 
 -- a row lies within the table
 pub row_fits : (s n jobs : ℕ) → s < n → s * jobs + jobs ≤ n * jobs
 row_fits s n jobs h = let m = mul-le-mul_right jobs h in rw suc-mul at m
 
 -- one case more
-pub case_more : (name : ℕ → List ℕ) (jobs : ℕ) (minutes : List ℤ) (s k : ℕ) (page one two : List ℕ) (row : List ℤ) → one ≡ page ++ cases_lines name jobs minutes s → row ≡ row_of minutes jobs s → k ≡ jobs → two ≡ one ++ case_lines name k s row → two ≡ page ++ cases_lines name jobs minutes (s + 1)
+pub case_more : (name : ℕ → List ℕ) (jobs : ℕ) (minutes : List ℤ) (s k : ℕ) (page one two : List ℕ) (row : List ℤ) →
+    one ≡ page ++ cases_lines name jobs minutes s → row ≡ row_of minutes jobs s → k ≡ jobs → two ≡ one ++ case_lines name k s row →
+    two ≡ page ++ cases_lines name jobs minutes (s + 1)
 case_more name jobs minutes s k page one two row a p q b =
     rw (add-one s) (joins page (cases_lines name jobs minutes s) (case_lines name jobs s (row_of minutes jobs s)) one two a (rw (p, q) at b))
 
@@ -61,7 +67,8 @@ check_put page check job one two three four a b c d =
     joins page ((codes "check " ++ check) ++ codes " ") (line (job ∷ [])) three four f d ∙ simp append_assoc
 
 -- one origin more
-pub origin_more : (b : Plain) (name : ℕ → List ℕ) (origins : List Origin) (i : ℕ) (page one two : List ℕ) (o : Origin) → one ≡ page ++ origin_lines b name origins i
+pub origin_more : (b : Plain) (name : ℕ → List ℕ) (origins : List Origin) (i : ℕ) (page one two : List ℕ) (o : Origin) →
+    one ≡ page ++ origin_lines b name origins i
     → o ≡ get_or origins i (Bound 0) → two ≡ one ++ origin_line b name o → two ≡ page ++ origin_lines b name origins (i + 1)
 origin_more b name origins i page one two o a p d =
     rw (add-one i) (joins page (origin_lines b name origins i) (origin_line b name (get_or origins i (Bound 0))) one two a (rw p at d))

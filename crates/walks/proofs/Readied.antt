@@ -59,7 +59,8 @@ row_at (suc m) n g s j h l = by (dec_lt s m) (λ k. row_at m n g s j k l)
         let e : s ≡ m = omega arith in
         let x = ap (λ t. t * n) e in
         let z : s * n + j - m * n ≡ j = omega arith in
-        get_or-append_right (each_below m (λ t. each_below n (λ i. g t i ∷ []))) (each_below n (λ i. g m i ∷ [])) (m * n) (s * n + j) (pos 0) sized (omega arith)
+        get_or-append_right (each_below m (λ t. each_below n (λ i. g t i ∷ []))) (each_below n (λ i. g m i ∷ [])) (m * n) (s * n + j) (pos 0) sized
+        (omega arith)
         ∙ (ap (λ k. get_or (each_below n (λ i. g m i ∷ [])) k (pos 0)) z ∙ (one_at n (g m) j l ∙ ap (λ t. g t j) (sym e)))
 
 each_same : {X : Type 0} (n : ℕ) (f g : ℕ → List X) → ((i : ℕ) → i < n → f i ≡ g i) → each_below n f ≡ each_below n g

@@ -7,7 +7,8 @@ use Rattle.sheet.proofs.judge.ask_weak.Goals as goal
 
 pub returns-in-Yes : goal.returns-in-Yes
 returns-in-Yes c =
-    let says = subst (λ a. WeakSays (held c.args.book.now) c.args.minutes.now c.weak.new.minutes c.args.origins.now c.weak.new.loops a) c.in-Yes.is c.in-Ok.ensures.1 in
+    let says = subst (λ a. WeakSays (held c.args.book.now) c.args.minutes.now c.weak.new.minutes c.args.origins.now c.weak.new.loops a) c.in-Yes.is
+    c.in-Ok.ensures.1 in
     (filled (held c.args.book.now) Weak c.args.minutes.now _ says.0, refl, refl)
 
 pub returns-in-No : goal.returns-in-No

@@ -7,6 +7,8 @@ use Rattle.sheet.proofs.lines.count_done.Goals.{then-minute-ge0, else-minute-ge0
 pub loop-minute-preserved : goal.loop-minute-preserved
 loop-minute-preserved c =
     elim c.if-minute-ge0.branch [
-      | then-minute-ge0 w ↦ let z = counts_one (get_or c.args.row.now c.loop-minute.minute-index (pos 0)) (omega (arith, ints)) in rw (add-one c.loop-minute.minute-index) (omega (arith, w.count-is), omega (arith, w.count-is))
-      | else-minute-ge0 w ↦ let z = counts_none (get_or c.args.row.now c.loop-minute.minute-index (pos 0)) (omega (arith, ints)) in rw (add-one c.loop-minute.minute-index) (omega (arith, w.count-is), omega (arith, w.count-is))
+      | then-minute-ge0 w ↦ let z = counts_one (get_or c.args.row.now c.loop-minute.minute-index (pos 0)) (omega (arith, ints)) in
+          rw (add-one c.loop-minute.minute-index) (omega (arith, w.count-is), omega (arith, w.count-is))
+      | else-minute-ge0 w ↦ let z = counts_none (get_or c.args.row.now c.loop-minute.minute-index (pos 0)) (omega (arith, ints)) in
+          rw (add-one c.loop-minute.minute-index) (omega (arith, w.count-is), omega (arith, w.count-is))
     ]

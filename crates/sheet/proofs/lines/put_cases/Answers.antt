@@ -19,5 +19,7 @@ loop-case-preserved c =
     let wide : (s * jobs + jobs) - s * jobs ≡ jobs = omega arith in
     let long : length (take ((s * jobs + jobs) - s * jobs) (drop (s * jobs) minutes)) ≡ jobs = simp (length-take, length-drop) (omega arith) in
     let name = name_of c.args.text.now c.args.places.now in
-    let row = ap (λ n. take n (drop (s * jobs) minutes)) wide in
-    (case_more name jobs minutes s _ _ _ _ _ c.loop-case.invariant.0 row long c.in_ok-put_case.ensures.put, cases_fit name jobs minutes s _ _ c.loop-case.invariant.1 row long c.in_ok-put_case.ensures.short)
+    let row = ap (λ n. take n (drop (s * jobs) minutes)) wide in (
+      case_more name jobs minutes s _ _ _ _ _ c.loop-case.invariant.0 row long c.in_ok-put_case.ensures.put,
+      cases_fit name jobs minutes s _ _ c.loop-case.invariant.1 row long c.in_ok-put_case.ensures.short,
+    )

@@ -16,6 +16,7 @@ returns c =
     let h : pos 0 ≤ℤ c.args.minute = omega (arith, ints) in
     let rest : c.as_bytes.result.now ≡ codes " " ++ (signed_decimal c.args.minute ++ codes "\n") = c.as_bytes.ensures.value ∙ rw e at c.in_ok-rest.ensures.ok in
     record {
-      put = then_minute (vec_items c.args.page.now) c.args.name.now c.args.minute _ _ c.as_bytes.result.now h c.in_ok-extend_from_slice.ensures.items rest c.in_ok-extend_from_slice-2.ensures.items;
+      put = then_minute (vec_items c.args.page.now) c.args.name.now c.args.minute _ _ c.as_bytes.result.now h c.in_ok-extend_from_slice.ensures.items
+          rest c.in_ok-extend_from_slice-2.ensures.items;
       short = job_fits c.args.name.now c.args.minute c.ranges.minute.sfits;
     }

@@ -36,7 +36,8 @@ returns c =
     let grade = strongest v.strong v.dynamic v.weakly.good in
     let rows = take ((c.cases.result * length c.jobs.result.now) - 0) minutes in
     let list = take (n - 0) origins in
-    let same = ap (λ g. rest_lines b name g rows v.weakly.case list) c.strongest-grade.ensures ∙ ap₂ (λ t u. rest_lines b name grade (take t minutes) v.weakly.case (take u origins)) wide long in
+    let same = ap (λ g. rest_lines b name g rows v.weakly.case list) c.strongest-grade.ensures ∙
+    ap₂ (λ t u. rest_lines b name grade (take t minutes) v.weakly.case (take u origins)) wide long in
     sheet_put b name minutes origins v (vec_items c.args.page.now) _ _ c.requires.judged c.in_ok-put_verdicts.ensures
     (c.in_ok-put_rest.ensures.put ∙ ap (λ t. vec_items c.put_verdicts.new.page ++ t) same)
     (subst (λ t. length t ≤ 6679) same c.in_ok-put_rest.ensures.short)

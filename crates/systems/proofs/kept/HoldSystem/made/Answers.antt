@@ -5,4 +5,5 @@ use Rattle.systems.specs.Adding.{items, single_system}
 use Rattle.systems.proofs.kept.HoldSystem.made.Goals as goal
 
 pub invariant_of-result : goal.invariant_of-result
-invariant_of-result c = record { sound = ∣ subst (λ (js : List Job). Sound (single_system (length js) (items c.args.holds))) (sym c.jobs.ensures) c.requires.sound ∣₁ }
+invariant_of-result c =
+    record { sound = ∣ subst (λ (js : List Job). Sound (single_system (length js) (items c.args.holds))) (sym c.jobs.ensures) c.requires.sound ∣₁ }
