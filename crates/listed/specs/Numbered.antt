@@ -1,9 +1,9 @@
--- The origins of a list of rules that come each from a bound.
-use Rattle.std.specs.Prelude.{ℕ, zero, suc, List, [], ◌∷◌}
-use Rattle.rules.specs.declared.parts.Origin.{Origin}
-use Rattle.rules.specs.declared.parts.Origin.TheVariants.{Bound}
+-- Rows with their numbers.
+use Rattle.std.specs.Prelude.{ℕ, suc, List, [], ◌∷◌}
+use Rattle.rules.specs.declared.rows.Row.{Row}
+use Rattle.listed.specs.declared.numbered.Numbered.{Numbered}
 
--- so many bounds, by number, from one on
-abbrev pub numbered : ℕ → ℕ → List Origin
-numbered zero from = []
-numbered (suc n) from = Bound from ∷ numbered n (suc from)
+-- rows in their order, numbered from n on
+abbrev pub with_numbers : ℕ → List Row → List Numbered
+with_numbers n [] = []
+with_numbers n (row ∷ rows) = record { row = row; number = n } ∷ with_numbers (suc n) rows

@@ -2,7 +2,8 @@
 #![tactic(auto)]
 
 mod listing;
+mod numbered;
 mod sound;
-mod system;
 
-pub use system::Listed;
+pub use listing::{Listed, listed};
+pub use numbered::Numbered;

@@ -1,17 +1,41 @@
-// Rows, collected into a rule table.
-ghost use Rattle.std.specs.Prelude.{◌≡◌, take};
-ghost use Rattle.rules.specs.Tables.{rows_of};
+// The rule system of a list of rows.
+ghost use Rattle.std.specs.Prelude.{◌≡◌, ◌≤◌, map, length, MatchOption};
+ghost use Rattle.rules.specs.declared.parts.Origin.TheVariants.{Bound};
+ghost use Rattle.rules.specs.Rules.{Sound};
+ghost use Rattle.rules.specs.Rows.{system_by, rule_of};
+ghost use Rattle.listed.specs.Numbered.{with_numbers};
 
+use crate::numbered::Numbered;
+use crate::sound::rows_sound;
+use rules::collected::Collected;
 use rules::rows::Row;
 use rules::table::RuleTable;
 
-// The first 8,192 of these rows, in a table.
-pub(crate) fn collected(rows: &[Row]) -> RuleTable
-    ensures { rows_of result ≡ take 8192 rows.now }
+// Places, and the rules of numbered rows over them.
+pub type Listed = Collected<Numbered, 8192>;
+
+// A table of these rows with their numbers.
+fn numbered(rows: &[Row]) -> RuleTable<Numbered, 8192>
+    requires few { length rows.now ≤ 8192 }
+    ensures { result ≡ with_numbers 0 rows.now }
 {
     let mut table = RuleTable::new();
-    for row in rows {
-        table.push(*row);
+    for (number, row) in rows.iter().enumerate() {
+        table.push(Numbered { row: *row, number });
     }
     table
+}
+
+// The rule system of these rows, where they are sound. Each rule's origin is a bound of its own number.
+pub fn listed(places: usize, rows: &[Row]) -> Option<Listed>
+    ensures { MatchOption result (Sound (system_by rule_of places rows.now) → ⊥)
+        (λ x. (x.places ≡ places) × (x.table ≡ with_numbers 0 rows.now)) }
+{
+    if !rows_sound(places, rows) {
+        return None;
+    }
+    Some(Collected {
+        places,
+        table: numbered(rows),
+    })
 }

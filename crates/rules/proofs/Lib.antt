@@ -2,7 +2,6 @@ pub mod Asked
 pub mod Bars
 pub mod Items
 pub mod Peeling
-pub mod Pushes
 pub mod Record
 pub mod RowRules
 pub mod Steps

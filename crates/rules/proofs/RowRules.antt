@@ -1,10 +1,10 @@
--- The rules of a list of rows, one by one.
+-- The rules of stored rows, one by one.
 use Rattle.std.proofs.Common.{◌≡◌, ℕ, ◌<◌, ◌≤◌, min, List, map, length, get_or, take, Some, None, ap, ◌∙◌, arith}
 use Rattle.std.proofs.lemmas.List.{get_or-map, get_or-take, length-map, length-take}
 use Rattle.rules.specs.declared.rows.Step.{Step}
 use Rattle.rules.specs.declared.rows.Row.{Row}
-use Rattle.rules.specs.Rules.{item, rule, alternative, held_at, held_of, count_at, count_of, alternative_at, alternative_of, no_rule, no_alternative}
-use Rattle.rules.specs.Rows.{step_of, rule_of, system_of}
+use Rattle.rules.specs.Rules.{Rule, item, rule, alternative, no_rule, no_alternative}
+use Rattle.rules.specs.Rows.{step_of, rule_of, system_by}
 use Rattle.rules.proofs.Items.{item_within, item_past}
 
 -- how many alternatives a row's rule has
@@ -26,33 +26,7 @@ row_item row a d h i =
 pub row_none : (row : Row) (a : ℕ) → min row.count (length row.alternatives) ≤ a → item (rule_of row).alternatives a ≡ None
 row_none row a h = item_past (rule_of row).alternatives a (omega (arith, row_count row))
 
--- the rule of row r
-pub rows_rule : (places : ℕ) (rows : List Row) (r : ℕ) (d : Row) → r < length rows → rule (system_of places rows) r ≡ rule_of (get_or rows r d)
-rows_rule places rows r d h = get_or-map rule_of rows r d no_rule h
-
-pub rows_item : (rows : List Row) (r : ℕ) (d : Row) → r < length rows → item (map rule_of rows) r ≡ Some (rule_of (get_or rows r d))
-rows_item rows r d h = item_within (map rule_of rows) r no_rule (omega (arith, length-map rows rule_of)) ∙ ap Some (get_or-map rule_of rows r d no_rule h)
-
-pub rows_none : (rows : List Row) (r : ℕ) → length rows ≤ r → item (map rule_of rows) r ≡ None
-rows_none rows r h = item_past (map rule_of rows) r (omega (arith, length-map rows rule_of))
-
--- what the questions about row r are answered, and past the last
-module _ (places : ℕ) (rows : List Row) (r : ℕ) (d : Row) (h : r < length rows) where
-  pub rows_held : held_at (system_of places rows) r ≡ Some (get_or rows r d).held
-  rows_held = ap held_of (rows_item rows r d h)
-
-  pub rows_count : count_at (system_of places rows) r ≡ Some (length (rule_of (get_or rows r d)).alternatives)
-  rows_count = ap count_of (rows_item rows r d h)
-
-  pub rows_alternative : (a : ℕ) → alternative_at (system_of places rows) r a ≡ item (rule_of (get_or rows r d)).alternatives a
-  rows_alternative a = ap (λ x. alternative_of x a) (rows_item rows r d h)
-
-module _ (places : ℕ) (rows : List Row) (r : ℕ) (h : length rows ≤ r) where
-  pub no_held : held_at (system_of places rows) r ≡ None
-  no_held = ap held_of (rows_none rows r h)
-
-  pub no_count : count_at (system_of places rows) r ≡ None
-  no_count = ap count_of (rows_none rows r h)
-
-  pub no_alternative_at : (a : ℕ) → alternative_at (system_of places rows) r a ≡ None
-  no_alternative_at a = ap (λ x. alternative_of x a) (rows_none rows r h)
+-- the rule of what is stored at r
+pub stored_rule : {R : Type 0} (read : R → Rule) (places : ℕ) (rows : List R) (r : ℕ) (d : R) → r < length rows →
+    rule (system_by read places rows) r ≡ read (get_or rows r d)
+stored_rule read places rows r d h = get_or-map read rows r d no_rule h

@@ -1,7 +1,7 @@
 // What rules are made of.
 
 // One way to keep a rule: so many minutes after a place, or before it where the minutes are below 0.
-#[derive(Clone, Copy)]
+#[derive(Clone, Copy, Debug, PartialEq, Eq)]
 pub struct Alternative {
     pub place: usize,
     pub minutes: i32,
@@ -9,7 +9,7 @@ pub struct Alternative {
 
 // Where a rule of a plan comes from: a bound by its number, the rule that a job comes after `start`, or the rule that
 // a job comes after a check of its label.
-#[derive(Clone, Copy)]
+#[derive(Clone, Copy, Debug, PartialEq, Eq)]
 pub enum Origin {
     Bound(usize),
     Start(usize),

@@ -1,38 +1,36 @@
-use Rattle.std.proofs.Common.{◌≡◌, ◌<◌, length, sym, refl, subst, arith, rules, below_more}
-use Rattle.rules.specs.Rules.{SoundAlternative, SoundRule, alternative}
-use Rattle.rules.specs.Rows.{rule_of}
+use Rattle.std.proofs.Common.{◌≡◌, ◌<◌, min, length, take, Decides, pos, sym, ap, ◌∙◌, subst, arith, rules, tests}
+use Rattle.std.specs.List.{AllWithin}
+use Rattle.std.proofs.lemmas.Iterator.{cases_from_all, YieldsList-from_slice}
+use Rattle.std.proofs.lemmas.List.{length-take, get_or-take}
+use Rattle.rules.specs.Rules.{SoundAlternative, SoundRule}
+use Rattle.rules.specs.Rows.{rule_of, step_of}
+use Rattle.rules.specs.declared.rows.Step.{Step}
 use Rattle.rules.proofs.RowRules.{row_alternative, row_count}
-use Rattle.listed.proofs.Decided.{decides_yes, decides_no}
+use Rattle.listed.proofs.Decided.{all_decides, decides_as}
 use Rattle.listed.proofs.sound.row_sound.Goals as goal
-
-pub returns-then-not-step_sound : goal.returns-then-not-step_sound
-returns-then-not-step_sound c =
-    let row = c.args.row in
-    let a = c.loop-a.a in
-    let five : length row.alternatives ≡ 5 = search rules in
-    let counted : a < row.count = omega (arith, c.min-count.ensures, c.loop-a-test.true) in
-    let within : a < length row.alternatives = omega (arith, c.min-count.ensures, c.loop-a-test.true) in
-    decides_no (λ (s : SoundRule c.args.places (rule_of row)).
-    c.if-not-step_sound.ensures.1
-    (subst (SoundAlternative c.args.places) (row_alternative row a _ counted within) (s.each a (omega (arith, row_count row)))))
-
-pub loop-a-preserved : goal.loop-a-preserved
-loop-a-preserved c =
-    let row = c.args.row in
-    let a = c.loop-a.a in
-    let five : length row.alternatives ≡ 5 = search rules in
-    let counted : a < row.count = omega (arith, c.min-count.ensures, c.loop-a-test.true) in
-    let within : a < length row.alternatives = omega (arith, c.min-count.ensures, c.loop-a-test.true) in
-    below_more (λ k. SoundAlternative c.args.places (alternative (rule_of row) k)) a c.loop-a.invariant
-    (subst (SoundAlternative c.args.places) (sym (row_alternative row a _ counted within)) (c.if-not-step_sound.ensures.0 refl))
 
 pub returns : goal.returns
 returns c =
     let row = c.args.row in
+    let steps = take c.count.result row.alternatives in
+    let P : Step → Type 0 = λ s. SoundAlternative c.args.places (step_of s) in
+    let blank : Step = record { place = 0; minutes = pos 0 } in
+    let by_call : Decides c.all.result (AllWithin P steps 0 (length steps)) = all_decides P blank steps _
+    (cases_from_all _ _ _ P (λ s. P s → ⊥) c.all.ensures.ran (YieldsList-from_slice steps cc) (λ x q k. search (rules, tests)) (λ x q k. search (rules, tests))) in
     let five : length row.alternatives ≡ 5 = search rules in
-    decides_yes (record {
-      within = c.if-row-places.false;
+    decides_as by_call
+    (λ h. record {
+      within = omega arith;
       some = omega (arith, row_count row);
       few = omega (arith, row_count row);
-      each = λ a h. c.loop-a.invariant a (omega (arith, row_count row, c.min-count.ensures, c.loop-a-test.false));
+      each = λ a i. let j : a < c.count.result = omega (arith, c.count.ensures) in
+          subst (SoundAlternative c.args.places)
+          (ap step_of (get_or-take c.count.result row.alternatives a blank j)
+          ∙ sym (row_alternative row a blank (omega (arith, row_count row, c.count.ensures)) (omega (arith, row_count row, c.count.ensures))))
+          (h a blank (omega arith) (omega (arith, length-take c.count.result row.alternatives, row_count row, c.count.ensures)));
     })
+    (λ s k d low high. let j : k < c.count.result = omega (arith, length-take c.count.result row.alternatives) in
+    subst (SoundAlternative c.args.places)
+    (row_alternative row k d (omega (arith, row_count row, c.count.ensures)) (omega (arith, row_count row, c.count.ensures))
+    ∙ sym (ap step_of (get_or-take c.count.result row.alternatives k d j)))
+    (s.each k (omega (arith, c.count.ensures))))

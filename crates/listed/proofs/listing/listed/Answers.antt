@@ -1,0 +1,14 @@
+use Rattle.std.proofs.Common.{◌≡◌, List, map, sym, refl, ap, ◌∙◌, subst}
+use Rattle.rules.specs.Rules.{Rule, Sound}
+use Rattle.rules.specs.Rows.{system_by, rule_of}
+use Rattle.listed.specs.declared.numbered.Numbered.{Numbered}
+use Rattle.listed.proofs.Numbers.{numbers_rules}
+use Rattle.listed.proofs.listing.listed.Goals as goal
+
+pub invariant_of-result : goal.invariant_of-result
+invariant_of-result c =
+    let rows = c.args.rows.now in
+    let sound : Sound (system_by rule_of c.args.places rows) = c.if-not-rows_sound.ensures.0 refl in
+    let same : map rule_of rows ≡ map (λ (x : Numbered). rule_of x.row) c.numbered.result =
+    sym (ap (map (λ (x : Numbered). rule_of x.row)) c.numbered.ensures ∙ numbers_rules 0 rows) in
+    record { sound = ∣ subst (λ (rules : List Rule). Sound (record { places = c.args.places; rules = rules })) same sound ∣₁ }
