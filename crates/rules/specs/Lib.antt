@@ -3,3 +3,4 @@ pub mod Rows
 pub mod Rules
 pub mod Search
 pub mod Single
+pub mod Tables

@@ -1,4 +1,6 @@
 // What rules are made of.
+ghost use Rattle.std.specs.Prelude.{◌≡◌};
+ghost use Rattle.rules.specs.declared.parts.Origin.TheVariants.{Start};
 
 // One way to keep a rule: so many minutes after a place, or before it where the minutes are below 0.
 #[derive(Clone, Copy, Debug, PartialEq, Eq)]
@@ -14,4 +16,13 @@ pub enum Origin {
     Bound(usize),
     Start(usize),
     Check(usize, usize),
+}
+
+// What a list of origins has where none was written yet.
+impl Default for Origin {
+    ghost is_default = { λ o. o ≡ Start 0 };
+
+    fn default() -> Origin {
+        Origin::Start(0)
+    }
 }

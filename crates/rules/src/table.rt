@@ -1,5 +1,6 @@
 // The table that a system collects its rules in.
-ghost use Rattle.std.specs.Prelude.{◌≡◌, List, [], ◌∷◌, ◌++◌, length, take};
+ghost use Rattle.std.specs.Prelude.{◌≡◌, List, [], ◌∷◌, ◌++◌, take};
+ghost use Rattle.rules.specs.Tables.{Adds};
 
 use crate::stored::StoredRule;
 use arrayvec::ArrayVec;
@@ -30,7 +31,8 @@ impl<R: StoredRule, const N: usize> RuleTable<R, N> {
 
     // Puts a rule after the others; a full table stays as it is.
     pub fn push(&mut self, rule: R)
-        ensures { self.new ≡ take N (self.old ++ rule ∷ []) }
+        ensures adds { Adds N self.old (rule ∷ []) self.new }
+        ensures cut { self.new ≡ take N (self.old ++ rule ∷ []) }
     {
         let _ = self.rules.try_push(rule);
     }

@@ -1,5 +1,5 @@
 pub mod Adding
-pub mod Asked
+pub mod Made
 pub mod Between
 pub mod Due
 pub mod Holding

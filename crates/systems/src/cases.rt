@@ -1,38 +1,26 @@
 // The holds that are due in a case, and the rules of each case, collected in their order.
-ghost use Rattle.std.specs.Prelude.{◌≡◌, ◌+◌, ◌<◌, ◌&&◌, pos, neg_ℤ, ◌≤ℤ◌};
+ghost use Rattle.std.specs.Prelude.{◌≡◌, ◌+◌, ◌<◌, ◌&&◌, map, pos, neg_ℤ, ◌≤ℤ◌};
 ghost use Rattle.book.specs.Plain.{cases};
 ghost use Rattle.book.specs.Done.{done};
 ghost use Rattle.book.specs.Held.{held};
 ghost use Rattle.rules.specs.Rows.{rule_of as row_rule};
-ghost use Rattle.rules.specs.Tables.{rules_of};
 ghost use Rattle.grades.specs.Systems.{each_below, holds, holds_in, rule_of, case_rules};
-ghost use Rattle.systems.specs.Adding.{Adds, items};
+ghost use Rattle.rules.specs.Tables.{Adds};
 
-use crate::table::HoldTable;
+use crate::holds::{BookHolds, HoldTable};
 use book::keeping::Book;
 use grades::holds::Hold;
 use rules::rows::{Row, Step};
 use rules::table::RuleTable;
 
+// Room for the rules of every dynamic system.
+pub(crate) type RowTable = RuleTable<Row, 8192>;
+
 // Whether both jobs of a hold are done in a case.
 fn due(book: &Book, case: u8, hold: Hold) -> bool
     ensures { result ≡ (done (held book.now) case hold.held && done (held book.now) case hold.by) }
 {
-    book.done(case, hold.held) & book.done(case, hold.by)
-}
-
-// The holds of a book that are due in a case.
-pub(crate) fn collect_due(book: &Book, case: u8, all: &[Hold]) -> HoldTable
-    requires all { all.now ≡ holds (held book.now) }
-    ensures { items result ≡ holds_in (held book.now) case (holds (held book.now)) }
-{
-    let mut out = HoldTable::new();
-    for (r, hold) in all.iter().enumerate() {
-        if due(book, case, *hold) {
-            out.push(*hold);
-        }
-    }
-    out
+    book.done(case, hold.held) && book.done(case, hold.by)
 }
 
 // The row of a hold in a case whose places begin at `base`.
@@ -54,28 +42,40 @@ fn case_row(hold: Hold, base: usize) -> Row
     }
 }
 
-// Adds the rules of one case.
-fn add_case(book: &Book, case: u8, all: &[Hold], out: &mut RuleTable)
-    requires all { all.now ≡ holds (held book.now) }
-    requires case { case < cases (held book.now) }
-    ensures { Adds 8192 (rules_of out.old) (case_rules (held book.now) case) (rules_of out.new) }
-{
-    let base = case as usize * book.jobs().len();
-    for (r, hold) in all.iter().enumerate() {
-        if due(book, case, *hold) {
-            out.push(case_row(*hold, base));
+impl BookHolds<'_> {
+    // The holds that are due in a case.
+    pub(crate) fn due(&self, case: u8) -> HoldTable
+        ensures { result ≡ holds_in (held self.now.book.now) case (holds (held self.now.book.now)) }
+    {
+        let mut out = RuleTable::new();
+        for hold in self.all.rules() {
+            if due(self.book, case, *hold) {
+                out.push(*hold);
+            }
+        }
+        out
+    }
+
+    // Adds the rules of one case.
+    fn add_case(&self, case: u8, out: &mut RowTable)
+        requires case { case < cases (held self.now.book.now) }
+        ensures { Adds 8192 (map row_rule out.old) (case_rules (held self.now.book.now) case) (map row_rule out.new) }
+    {
+        let base = usize::from(case) * self.book.jobs().len();
+        for hold in self.all.rules() {
+            if due(self.book, case, *hold) {
+                out.push(case_row(*hold, base));
+            }
         }
     }
-}
 
-// Adds the rules of each case.
-pub(crate) fn add_cases(book: &Book, all: &[Hold], out: &mut RuleTable)
-    requires all { all.now ≡ holds (held book.now) }
-    ensures { Adds 8192 (rules_of out.old)
-        (each_below (cases (held book.now)) (case_rules (held book.now))) (rules_of out.new) }
-{
-    let cases = book.cases();
-    for s in 0..cases {
-        add_case(book, s, all, out);
+    // Adds the rules of each case.
+    pub(crate) fn add_cases(&self, out: &mut RowTable)
+        ensures { Adds 8192 (map row_rule out.old)
+            (each_below (cases (held self.now.book.now)) (case_rules (held self.now.book.now))) (map row_rule out.new) }
+    {
+        for case in 0..self.book.cases() {
+            self.add_case(case, out);
+        }
     }
 }

@@ -2,10 +2,8 @@
 #![tactic(auto)]
 
 mod cases;
-mod collect;
-pub mod dynamic;
-pub mod kept;
-pub mod single;
-pub mod table;
-mod tables;
+mod graded;
+mod holds;
 mod unknown;
+
+pub use graded::{HoldSystem, RowSystem, dynamic_system, strong_system, weak_system};

@@ -9,7 +9,7 @@ use book::keeping::Book;
 use find::{Explained, Found, Refusal, find, find_or_loop};
 use rules::parts::Origin;
 use rules::system::{RuleSystem, WithOrigins};
-use systems::kept::{Dynamic, Strong, Weak};
+use systems::{dynamic_system, strong_system, weak_system};
 
 // Searches the strong rules of a book.
 pub(crate) fn search_strong(
@@ -19,8 +19,7 @@ pub(crate) fn search_strong(
 ) -> Result<Explained, Refusal>
     ensures { StrongSearch (held book.now) table.old table.new loops.old loops.new result }
 {
-    let system = Strong::new(book);
-    find_or_loop(&system, table, loops)
+    find_or_loop(&strong_system(book), table, loops)
 }
 
 // Searches the rules of a system, and writes its table over the numbers of `table` from `from` on.
@@ -47,15 +46,13 @@ pub(crate) fn search_case(
     requires within { part (held book.now) case ≤ length table.old }
     ensures { CaseSearch (held book.now) case table.old table.new loops.old loops.new result }
 {
-    let from = case as usize * book.jobs().len();
-    let system = Weak::new(book, case);
-    search_from(&system, from, table, loops)
+    let from = usize::from(case) * book.jobs().len();
+    search_from(&weak_system(book, case), from, table, loops)
 }
 
 // Searches the dynamic rules of a book.
 pub(crate) fn search_dynamic(book: &Book, table: &mut [i32]) -> Result<Found, Refusal>
     ensures { Finds (dynamic_system (held book.now)) table.old table.new result }
 {
-    let system = Dynamic::new(book);
-    find(&system, table)
+    find(&dynamic_system(book), table)
 }

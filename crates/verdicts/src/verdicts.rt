@@ -1,7 +1,6 @@
 // The verdicts.
 ghost use Rattle.std.specs.Prelude.{◌≡◌, ◌≤◌, length};
 ghost use Rattle.book.specs.Held.{held};
-ghost use Rattle.verdicts.specs.declared.answers.WeakAnswer.TheVariants.{No as WeakNo};
 ghost use Rattle.verdicts.specs.Filling.{StrongEnds, DynamicEnds};
 ghost use Rattle.verdicts.specs.Verdicts.{size, StrongAnswered, WeakAnswered, DynamicAnswered};
 
@@ -16,7 +15,7 @@ use rules::parts::Origin;
 fn size(book: &Book) -> usize
     ensures { result ≡ size (held book.now) }
 {
-    book.cases() as usize * book.jobs().len()
+    usize::from(book.cases()) * book.jobs().len()
 }
 
 // Fills the minutes list with the table that the strong search found, if any, and says what to answer.
@@ -53,13 +52,6 @@ pub fn strong(
     Ok(end_strong(found, book, &table, minutes))
 }
 
-// The answer where a case fails.
-fn fails(case: u8, length: usize) -> WeakAnswer
-    ensures { result ≡ WeakNo case length }
-{
-    WeakAnswer::No { case, length }
-}
-
 // Whether there is a timetable for each set of outcomes, known in advance.
 pub fn weak(book: &Book, minutes: &mut [i32], loops: &mut [Origin]) -> Result<WeakAnswer, Refusal>
     ensures { WeakAnswered (held book.now) minutes.old minutes.new loops.old loops.new result }
@@ -72,10 +64,8 @@ pub fn weak(book: &Book, minutes: &mut [i32], loops: &mut [Origin]) -> Result<We
     }
     let mut table = [0i32; 320];
     for case in 0..book.cases() {
-        let found = search_case(book, case, &mut table, loops)?;
-        match found {
-            Explained::Table => {}
-            Explained::Loop(length) => return Ok(fails(case, length)),
+        if let Explained::Loop(length) = search_case(book, case, &mut table, loops)? {
+            return Ok(WeakAnswer::No { case, length });
         }
     }
     fill(book, &table, book.jobs().len(), minutes);

@@ -1,8 +1,0 @@
-use Rattle.std.proofs.Common.{[], ◌∷◌}
-use Rattle.book.specs.Held.{held}
-use Rattle.grades.specs.Systems.{each_below, bound_hold}
-use Rattle.systems.specs.Adding.{Adds, items}
-use Rattle.systems.proofs.collect.add_bounds.Given as goal
-
-abbrev pub invariant-loop-i : goal.invariant-loop-i
-invariant-loop-i l = Adds 164 (items l.initial.out) (each_below l.i (λ n. bound_hold (held l.book) n ∷ [])) (items l.out)

@@ -1,7 +1,0 @@
-use Rattle.grades.specs.Systems.{each_below}
-use Rattle.systems.specs.Adding.{Adds, items}
-use Rattle.systems.proofs.Holding.{start_if}
-use Rattle.systems.proofs.collect.add_starts.Given as goal
-
-abbrev pub invariant-loop-j : goal.invariant-loop-j
-invariant-loop-j l = Adds 164 (items l.initial.out) (each_below l.j (start_if)) (items l.out)

@@ -1,0 +1,14 @@
+use Rattle.std.proofs.Common.{map}
+use Rattle.book.specs.Held.{held}
+use Rattle.rules.specs.Rows.{rule_of}
+use Rattle.grades.specs.Systems.{case_rules}
+use Rattle.systems.proofs.Adding.{adds_none, adds_more}
+use Rattle.systems.proofs.holds.BookHolds.add_cases.Goals as goal
+
+pub loop-case-init : goal.loop-case-init
+loop-case-init c = adds_none 8192 (map rule_of c.args.out.now)
+
+pub loop-case-preserved : goal.loop-case-preserved
+loop-case-preserved c =
+    adds_more 8192 (map rule_of c.args.out.now) (map rule_of c.loop-case.out) (map rule_of c.add_case.new.out) c.loop-case.case
+    (case_rules (held c.args.self.now.book.now)) c.loop-case.invariant c.add_case.ensures

@@ -1,0 +1,9 @@
+use Rattle.std.proofs.Common.{map}
+use Rattle.book.specs.Held.{held}
+use Rattle.rules.specs.Rows.{rule_of}
+use Rattle.rules.specs.Tables.{Adds}
+use Rattle.grades.specs.Systems.{each_below, case_rules}
+use Rattle.systems.proofs.holds.BookHolds.add_cases.Given as goal
+
+abbrev pub invariant-loop-case : goal.invariant-loop-case
+invariant-loop-case l = Adds 8192 (map rule_of l.initial.out) (each_below l.case (case_rules (held l.self.book.now))) (map rule_of l.out)
