@@ -1,9 +1,9 @@
 -- The worked examples, each a statement of the definitions.
-use Rattle.std.specs.Prelude.{◌≡◌, ℕ, ◌+◌, ◌^◌, Bool, true, false, ◌⊎◌, List, [], ◌∷◌, map, ℤ, pos, negsuc, Some, Ok, Option, count_ones}
+use Rattle.std.specs.Prelude.{◌≡◌, ℕ, ◌+◌, ◌^◌, Bool, true, false, ◌⊎◌, List, [], ◌∷◌, map, ℤ, pos, negsuc, Some, Ok, Option, count_ones, slice_get}
 use Rattle.book.specs.Plain.{Plain, cases, new_book, add_check, add_job, add_bound, withdraw}
 use Rattle.rules.specs.declared.parts.Origin.{Origin}
 use Rattle.rules.specs.declared.parts.Origin.TheVariants.{Bound}
-use Rattle.rules.specs.Rules.{Keeps, item}
+use Rattle.rules.specs.Rules.{Keeps}
 use Rattle.rules.specs.Loops.{Loop, total}
 use Rattle.grades.specs.Grades.{Minutes, Weak, Strong, Dynamic, Earliest}
 use Rattle.grades.specs.Systems.{listed, strong_system, weak_system, strong_origins, weak_origins}
@@ -19,7 +19,7 @@ Without Grade = (minute : Minutes) → Grade minute → ⊥
 
 -- the origins of the rules with these numbers
 abbrev pub origins : List Origin → List ℕ → List (Option Origin)
-origins all rules = map (item all) rules
+origins all rules = map (slice_get all) rules
 
 -- A new book has one case, and in every grade `start` at minute 0.
 abbrev pub at_once : Minutes

@@ -4,8 +4,6 @@
 ghost use Rattle.examples.specs.Worked.{Worked};
 
 // Every worked example follows from the definitions.
-pub fn worked_examples() -> u8
+pub fn worked_examples()
     ensures { Worked }
-{
-    0
-}
+{}

@@ -1,6 +1,5 @@
 pub mod Asked
 pub mod Bars
-pub mod Items
 pub mod Peeling
 pub mod Record
 pub mod RowRules

@@ -3,9 +3,8 @@ use Rattle.std.proofs.Common.{◌≡◌, ℕ, ◌<◌, ◌≤◌, min, List, map
 use Rattle.std.proofs.lemmas.List.{get_or-map, get_or-take, length-map, length-take}
 use Rattle.rules.specs.declared.rows.Step.{Step}
 use Rattle.rules.specs.declared.rows.Row.{Row}
-use Rattle.rules.specs.Rules.{Rule, item, rule, alternative, no_rule, no_alternative}
+use Rattle.rules.specs.Rules.{Rule, rule, alternative, no_rule, no_alternative}
 use Rattle.rules.specs.Rows.{step_of, rule_of, system_by}
-use Rattle.rules.proofs.Items.{item_within, item_past}
 
 -- how many alternatives a row's rule has
 pub row_count : (row : Row) → length (rule_of row).alternatives ≡ min row.count (length row.alternatives)
@@ -17,14 +16,6 @@ pub row_alternative : (row : Row) (a : ℕ) (d : Step) → a < row.count → a <
 row_alternative row a d h i =
     get_or-map step_of (take row.count row.alternatives) a d no_alternative (omega (arith, length-take row.count row.alternatives))
     ∙ ap step_of (get_or-take row.count row.alternatives a d h)
-
-pub row_item : (row : Row) (a : ℕ) (d : Step) → a < row.count → a < length row.alternatives →
-    item (rule_of row).alternatives a ≡ Some (step_of (get_or row.alternatives a d))
-row_item row a d h i =
-    item_within (rule_of row).alternatives a no_alternative (omega (arith, row_count row)) ∙ ap Some (row_alternative row a d h i)
-
-pub row_none : (row : Row) (a : ℕ) → min row.count (length row.alternatives) ≤ a → item (rule_of row).alternatives a ≡ None
-row_none row a h = item_past (rule_of row).alternatives a (omega (arith, row_count row))
 
 -- the rule of what is stored at r
 pub stored_rule : {R : Type 0} (read : R → Rule) (places : ℕ) (rows : List R) (r : ℕ) (d : R) → r < length rows →

@@ -1,6 +1,6 @@
 -- Rule systems, and what it is for a table of minutes to keep their rules.
-use Rattle.std.specs.Prelude.{◌≡◌, ℕ, zero, suc, ◌<◌, ◌≤◌, List, [], ◌∷◌, length, pos, ◌+ℤ◌, neg_ℤ, ◌≤ℤ◌, Some, None, Option, slice_index}
-use Rattle.std.specs.Prelude.{slice_index_or}
+use Rattle.std.specs.Prelude.{◌≡◌, ℕ, ◌<◌, ◌≤◌, List, [], length, pos, ◌+ℤ◌, neg_ℤ, ◌≤ℤ◌, Some, None, Option, slice_index}
+use Rattle.std.specs.Prelude.{slice_get, slice_index_or}
 use Rattle.rules.specs.declared.parts.Alternative.{Alternative}
 
 -- a rule holds back one place, and is kept by any one of its alternatives
@@ -12,12 +12,6 @@ pub record Rule : Type 0 where
 pub record System : Type 0 where
   pub places : ℕ
   pub rules : List Rule
-
--- the item at an index, none past the end
-abbrev pub item : {A : Type 0} → List A → ℕ → Option A
-item [] i = None
-item (x ∷ xs) zero = Some x
-item (x ∷ xs) (suc i) = item xs i
 
 abbrev pub no_alternative : Alternative
 no_alternative = record { place = 0; minutes = pos 0 }
@@ -31,7 +25,7 @@ rule m r = slice_index_or m.rules r no_rule
 abbrev pub alternative : Rule → ℕ → Alternative
 alternative x a = slice_index_or x.alternatives a no_alternative
 
--- what the questions are answered from
+-- what the questions are answered from: none past the end
 abbrev pub held_of : Option Rule → Option ℕ
 held_of None = None
 held_of (Some x) = Some x.held
@@ -42,16 +36,16 @@ count_of (Some x) = Some (length x.alternatives)
 
 abbrev pub alternative_of : Option Rule → ℕ → Option Alternative
 alternative_of None a = None
-alternative_of (Some x) a = item x.alternatives a
+alternative_of (Some x) a = slice_get x.alternatives a
 
 abbrev pub held_at : System → ℕ → Option ℕ
-held_at m r = held_of (item m.rules r)
+held_at m r = held_of (slice_get m.rules r)
 
 abbrev pub count_at : System → ℕ → Option ℕ
-count_at m r = count_of (item m.rules r)
+count_at m r = count_of (slice_get m.rules r)
 
 abbrev pub alternative_at : System → ℕ → ℕ → Option Alternative
-alternative_at m r a = alternative_of (item m.rules r) a
+alternative_at m r a = alternative_of (slice_get m.rules r) a
 
 -- What every system keeps to: 1 to 320 places, at most 8,192 rules, each with 1 to 5 alternatives, all places below the number of
 -- places, minutes within three days either way.

@@ -1,7 +1,7 @@
 // Rules in the form in which a table stores them.
-ghost use Rattle.std.specs.Prelude.{◌≡◌, length};
+ghost use Rattle.std.specs.Prelude.{◌≡◌, length, slice_get};
 ghost use Rattle.rules.specs.declared.parts.Origin.{Origin};
-ghost use Rattle.rules.specs.Rules.{Rule, item};
+ghost use Rattle.rules.specs.Rules.{Rule};
 
 use crate::parts::{Alternative, Origin};
 
@@ -19,7 +19,7 @@ pub trait StoredRule: Copy + Default + Drop {
 
     // Alternative `a` of the rule.
     fn alternative(&self, a: usize) -> Option<Alternative>
-        ensures { result ≡ item (rule self.now).alternatives a };
+        ensures { result ≡ slice_get (rule self.now).alternatives a };
 }
 
 // A stored rule with its origin.

@@ -1,7 +1,7 @@
 // The questions that every rule system answers.
-ghost use Rattle.std.specs.Prelude.{◌≡◌, List, length};
+ghost use Rattle.std.specs.Prelude.{◌≡◌, List, length, slice_get};
 ghost use Rattle.rules.specs.declared.parts.Origin.{Origin};
-ghost use Rattle.rules.specs.Rules.{System, Sound, item, held_at, count_at, alternative_at};
+ghost use Rattle.rules.specs.Rules.{System, Sound, held_at, count_at, alternative_at};
 
 use crate::parts::{Alternative, Origin};
 
@@ -39,6 +39,6 @@ pub trait WithOrigins: RuleSystem {
 
     // The origin of rule `r`: every rule has one.
     fn origin(&self, r: usize) -> Option<Origin>
-        ensures origin { result ≡ item (origins self.now) r }
+        ensures origin { result ≡ slice_get (origins self.now) r }
         ensures each { length (origins self.now) ≡ length (Self.RuleSystem.meaning self.now).rules };
 }

@@ -2,8 +2,6 @@
 ghost use Rattle.rules.specs.Loops.{LoopBars};
 
 // Where each rule has one alternative, no table keeps the rules of a loop.
-pub fn loop_bars() -> u8
+pub fn loop_bars()
     ensures { LoopBars }
-{
-    0
-}
+{}
