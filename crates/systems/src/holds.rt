@@ -1,6 +1,5 @@
 // The holds of a book, collected in their order.
 ghost use Rattle.std.specs.Prelude.{◌≡◌, ◌<◌, pos, neg_ℤ, ◌≤ℤ◌};
-ghost use Rattle.book.specs.Labels.{names};
 ghost use Rattle.book.specs.Plain.{asking, job};
 ghost use Rattle.book.specs.Held.{held};
 ghost use Rattle.rules.specs.declared.parts.Origin.TheVariants.{Bound as BoundOrigin};
@@ -111,7 +110,7 @@ fn add_checks_of(book: &Book, j: usize, label: Label, out: &mut HoldTable)
     ensures { Adds 164 out.old (check_holds_of (held book.now) j) out.new }
 {
     for c in 0..book.checks() {
-        if names(label, c) {
+        if label.names(c) {
             out.push(check_hold(book, j, c));
         }
     }
@@ -124,12 +123,4 @@ fn add_checks(book: &Book, out: &mut HoldTable)
     for (j, job) in book.jobs().iter().enumerate() {
         add_checks_of(book, j, job.label, out);
     }
-}
-
-// Whether a label names check `c`.
-fn names(label: Label, c: u8) -> bool
-    requires few { c < 8 }
-    ensures { result ≡ names label c }
-{
-    (label.yes >> c) % 2 == 1 || (label.no >> c) % 2 == 1
 }
