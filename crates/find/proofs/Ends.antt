@@ -1,18 +1,20 @@
 -- How a search ends: with the least table, or with places that bar each other.
-use Rattle.std.proofs.Common.{◌≡◌, ℕ, ◌≤◌, Bool, List, ◌++◌, map, length, take, drop, ℤ, pos, Some, None, Ok, Option, arith}
+use Rattle.std.proofs.Common.{◌≡◌, ℕ, ◌≤◌, List, ◌++◌, map, length, take, drop, ℤ, pos, subst, arith}
 use Rattle.rules.specs.Rules.{System, Sound, NoneKeeps, at}
-use Rattle.rules.specs.Search.{Searched, Barred, In}
+use Rattle.rules.specs.Search.{Good, AllKept}
+use Rattle.rules.specs.Loops.{Stuck}
 use Rattle.rules.proofs.Steps.{ends}
-use Rattle.find.specs.Answers.{Finds, found_of, if_found}
+use Rattle.find.specs.Answers.{Written}
 
-pub none_keeps : (m : System) (by : List ℕ) (inside : List Bool) (p : ℕ) → Barred m by inside → In inside p → NoneKeeps m
-none_keeps m by inside p bar here other k = bar.none p here other (λ q h. k.each (at by q) (bar.traced q h).within)
+pub none_keeps : (m : System) (by : List ℕ) (p : ℕ) → Stuck m by p → NoneKeeps m
+none_keeps m by p stuck other k = stuck.barred.none p stuck.here other (λ q h. k.each (at by q) (stuck.barred.traced q h).within)
 
--- the answer of `find`, from the end of its search and what it wrote
-pub finds : (m : System) (sound : Sound m) (table by : List ℕ) (inside : List Bool) (before after : List ℤ) (p : Option ℕ) →
-    Searched m table by inside p → m.places ≤ length before →
-    after ≡ if_found (found_of p) (map pos (take m.places table) ++ drop m.places before) before → Finds m before after (Ok (found_of p))
-finds m sound table by inside before after None (good, kept) room written =
-    let wide : m.places ≤ length table = omega (arith, sound.few, good.wide) in
-    (room, (take m.places table, ends m sound table wide good.under kept, written))
-finds m sound table by inside before after (Some p) (bar, here) room written = (room, none_keeps m by inside p bar here, written)
+-- the first numbers of a table that stays are the least table
+pub writes : (m : System) (sound : Sound m) (table by : List ℕ) (before after : List ℤ) (n : ℕ) → Good m 0 table by × AllKept m table →
+    n ≡ m.places → after ≡ map pos (take n table) ++ drop n before → Written m before after
+writes m sound table by before after n (good, kept) e written =
+    let wide : m.places ≤ length table = omega (arith, sound.few, good.wide) in (
+      take m.places table,
+      ends m sound table wide good.under kept,
+      subst (λ k. after ≡ map pos (take k table) ++ drop k before) e written,
+    )

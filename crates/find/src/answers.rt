@@ -1,28 +1,28 @@
-// What the search answers.
+// What the search answers: a no is an answer and no error, and each answer has a name that says it.
 ghost use Rattle.std.specs.Prelude.{◌≡◌};
 ghost use Rattle.find.specs.Answers.{number};
 
 // A table keeps all rules, or none does.
-#[derive(Clone, Copy)]
+#[derive(Clone, Copy, Debug, PartialEq, Eq)]
 pub enum Found {
     Table,
     NoTable,
 }
 
 // A table keeps all rules, or none does: then so many rules are a loop.
-#[derive(Clone, Copy)]
+#[derive(Clone, Copy, Debug, PartialEq, Eq)]
 pub enum Explained {
     Table,
     Loop(usize),
 }
 
-// Why there was no search.
-#[derive(Clone, Copy)]
+// Why there was no search, each by its number.
+#[derive(Clone, Copy, Debug, PartialEq, Eq)]
 pub enum Refusal {
     // There are more places than minutes to write.
-    MinutesShort,
+    MinutesShort = 12,
     // There are more places than origins to write.
-    LoopShort,
+    LoopShort = 13,
 }
 
 impl Refusal {
@@ -30,9 +30,6 @@ impl Refusal {
     pub fn number(self) -> u8
         ensures { result ≡ number self }
     {
-        match self {
-            Refusal::MinutesShort => 12,
-            Refusal::LoopShort => 13,
-        }
+        self as u8
     }
 }

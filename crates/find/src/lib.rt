@@ -3,6 +3,7 @@
 
 mod answers;
 mod asking;
+mod finding;
 mod loops;
 mod marks;
 mod rounds;
@@ -11,6 +12,6 @@ mod tables;
 mod theorems;
 
 pub use answers::{Explained, Found, Refusal};
+pub use finding::find;
 pub use loops::find_or_loop;
-pub use tables::find;
 pub use theorems::{answers_exactly, explains_exactly};

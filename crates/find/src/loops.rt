@@ -1,77 +1,67 @@
 // A loop of rules, where no table keeps them.
-ghost use Rattle.std.specs.Prelude.{◌≡◌, ℕ, ◌-◌, ◌<◌, ◌≤◌, ◌++◌, map, length, drop, slice_index, slice_range};
+ghost use Rattle.std.specs.Prelude.{◌≡◌, ℕ, ◌<◌, ◌≤◌, ◌++◌, map, length, drop, slice_index};
 ghost use Rattle.rules.specs.Loops.{Loop, Stuck};
 ghost use Rattle.find.specs.Answers.{Explains, Looped, origin_of};
+ghost use Rattle.find.specs.Tables.{rules_of};
 
 use crate::answers::{Explained, Refusal};
-use crate::asking::offered;
+use crate::asking::Rule;
 use crate::searching::search;
-use crate::tables::write_out;
+use crate::tables::{PLACES, Table};
 use rules::parts::Origin;
 use rules::system::{RuleSystem, WithOrigins};
 
-// A part of a list: from one index on, up to another.
-#[derive(Clone, Copy)]
-struct Span {
-    from: usize,
-    to: usize,
+// The table at which a search stopped, and one of the places that bar each other there.
+#[derive(Drop)]
+pub(crate) struct Barred {
+    pub(crate) table: Table,
+    pub(crate) place: usize,
 }
 
-// Walks from a place that is barred, by the rules that bar it, until a place comes again. The rules are written over the
-// first of `out`; those between are a loop.
-fn walk<T: RuleSystem>(t: &T, by: &[usize], start: usize, out: &mut [usize]) -> Span
-    requires stuck { Stuck (T.meaning t.now) by.now start }
-    requires broad { (T.meaning t.now).places ≤ length by.now }
-    requires wide { (T.meaning t.now).places ≤ length out.old }
-    ensures within { (result.from ≤ result.to) × (result.to ≤ (T.meaning t.now).places) }
-    ensures closes { Loop (T.meaning t.now) (slice_range out.new result.from result.to) }
-{
-    let mut seen = [0usize; 320];
-    let mut p = start;
-    let mut n = 0;
-    while seen[p] == 0 {
-        let r = by[p];
-        out[n] = r;
-        n += 1;
-        seen[p] = n;
-        p = offered(t, r, 0).place;
+impl Barred {
+    // Walks from the place, by the rules that bar it, until a place comes again. The rules are written over the first of
+    // `walked`; the answer are those of the loop.
+    fn walk<'a, T: RuleSystem>(&self, system: &T, walked: &'a mut [usize; PLACES]) -> &'a [usize]
+        requires { Stuck (T.meaning system.now) (rules_of self.now.table.places) self.now.place }
+        ensures { Loop (T.meaning system.now) result.now }
+    {
+        let mut seen = [None; PLACES];
+        let mut place = self.place;
+        let mut n = 0;
+        loop {
+            if let Some(from) = seen[place] {
+                return &walked[from..n];
+            }
+            seen[place] = Some(n);
+            let number = self.table.places[place].by;
+            walked[n] = number;
+            n += 1;
+            place = Rule { system, number }.way(0).place;
+        }
     }
-    Span {
-        from: seen[p] - 1,
-        to: n,
-    }
-}
 
-// The origin of rule `r`.
-fn origin<T: WithOrigins>(t: &T, r: usize) -> Origin
-    requires known { r < length (T.meaning t.now).rules }
-    ensures { result ≡ origin_of (T.origins t.now) r }
-{
-    t.origin(r).unwrap()
+    // Writes the origins of a loop over the first of `out`, and says how many they are.
+    pub(crate) fn write_loop<T: WithOrigins>(&self, system: &T, out: &mut [Origin]) -> usize
+        requires stuck { Stuck (T.meaning system.now) (rules_of self.now.table.places) self.now.place }
+        requires wide { (T.meaning system.now).places ≤ length out.old }
+        ensures { Looped (T.meaning system.now) (T.origins system.now) out.old out.new result }
+    {
+        let mut walked = [0; PLACES];
+        let round = self.walk(system, &mut walked);
+        write_origins(system, round, out);
+        round.len()
+    }
 }
 
 // Writes the origins of these rules over the first of `out`.
-fn write_origins<T: WithOrigins>(t: &T, rs: &[usize], out: &mut [Origin])
-    requires known { (i : ℕ) → i < length rs.now → slice_index rs.now i < length (T.meaning t.now).rules }
-    requires wide { length rs.now ≤ length out.old }
-    ensures { out.new ≡ map (origin_of (T.origins t.now)) rs.now ++ drop (length rs.now) out.old }
+fn write_origins<T: WithOrigins>(system: &T, rules: &[usize], out: &mut [Origin])
+    requires known { (i : ℕ) → i < length rules.now → slice_index rules.now i < length (T.meaning system.now).rules }
+    requires wide { length rules.now ≤ length out.old }
+    ensures { out.new ≡ map (origin_of (T.origins system.now)) rules.now ++ drop (length rules.now) out.old }
 {
-    for i in 0..rs.len() {
-        out[i] = origin(t, rs[i]);
+    for (i, &number) in rules.iter().enumerate() {
+        out[i] = Rule { system, number }.origin();
     }
-}
-
-// Writes the origins of a loop over the first of `out`, and says how many they are.
-fn write_loop<T: WithOrigins>(t: &T, by: &[usize], start: usize, out: &mut [Origin]) -> usize
-    requires stuck { Stuck (T.meaning t.now) by.now start }
-    requires broad { (T.meaning t.now).places ≤ length by.now }
-    requires wide { (T.meaning t.now).places ≤ length out.old }
-    ensures { Looped (T.meaning t.now) (T.origins t.now) out.old out.new result }
-{
-    let mut walked = [0usize; 320];
-    let Span { from, to } = walk(t, by, start, &mut walked);
-    write_origins(t, &walked[from..to], out);
-    to - from
 }
 
 // Writes the least table that keeps every rule over the first of `minutes`; or, where there is none, the origins of a loop of
@@ -91,14 +81,11 @@ pub fn find_or_loop<T: WithOrigins>(
     if out.len() < n {
         return Err(Refusal::LoopShort);
     }
-    let mut table = [0u32; 320];
-    let mut by = [0usize; 320];
-    let mut inside = [false; 320];
-    match search(t, &mut table, &mut by, &mut inside) {
-        None => {
-            write_out(&table, n, minutes);
+    match search(t) {
+        Ok(table) => {
+            table.write_out(n, minutes);
             Ok(Explained::Table)
         }
-        Some(p) => Ok(Explained::Loop(write_loop(t, &by, p, out))),
+        Err(barred) => Ok(Explained::Loop(barred.write_loop(t, out))),
     }
 }

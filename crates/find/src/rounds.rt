@@ -1,49 +1,48 @@
 // Rounds over the rules, which raise places and record the rule that raised each.
-ghost use Rattle.std.specs.Prelude.{◌≡◌, ◌+◌, ◌<◌, length, slice_set};
+ghost use Rattle.std.specs.Prelude.{◌+◌, length};
 ghost use Rattle.rules.specs.Rules.{rule, Kept};
 ghost use Rattle.rules.specs.Search.{Good, Grown, AllKept};
+ghost use Rattle.find.specs.Tables.{minutes_of, rules_of};
 
-use crate::asking::{held, least_asked};
+use crate::asking::Rule;
+use crate::tables::{Place, Table};
 use rules::system::RuleSystem;
 
-// Raises place `p` to `x`, and records rule `r` for it.
-fn put(table: &mut [u32], by: &mut [usize], p: usize, x: u32, r: usize)
-    requires within { p < length table.old }
-    requires recorded { p < length by.old }
-    ensures raised { table.new ≡ slice_set table.old p x }
-    ensures recorded { by.new ≡ slice_set by.old p r }
-{
-    table[p] = x;
-    by[p] = r;
-}
-
-// Raises the place that rule `r` holds back, where the table does not keep the rule, and records the rule for it.
-fn raise<T: RuleSystem>(t: &T, r: usize, table: &mut [u32], by: &mut [usize]) -> bool
-    requires known { r < length (T.meaning t.now).rules }
-    requires good { Good (T.meaning t.now) r table.old by.old }
-    ensures good { Good (T.meaning t.now) (r + 1) table.new by.new }
-    ensures grown { Grown (Kept table.old (rule (T.meaning t.now) r)) table.old table.new result }
-{
-    let x = least_asked(t, r, table);
-    let p = held(t, r);
-    if x <= table[p] {
-        return false;
-    }
-    put(table, by, p, x, r);
-    true
-}
-
-// Goes through the rules once, raising where it has to.
-pub(crate) fn round<T: RuleSystem>(t: &T, table: &mut [u32], by: &mut [usize]) -> bool
-    requires good { Good (T.meaning t.now) 0 table.old by.old }
-    ensures good { Good (T.meaning t.now) (length (T.meaning t.now).rules) table.new by.new }
-    ensures grown { Grown (AllKept (T.meaning t.now) table.old) table.old table.new result }
-{
-    let mut rose = false;
-    for r in 0..t.rules() {
-        if raise(t, r, table, by) {
-            rose = true;
+impl<'a, T: RuleSystem> Rule<'a, T> {
+    // Raises the place that the rule holds back, where the table does not keep the rule, and records the rule for it.
+    fn raise(&self, table: &mut Table) -> bool
+        requires { Good (T.meaning self.now.system.now) self.now.number (minutes_of table.old.places) (rules_of table.old.places) }
+        ensures good { Good (T.meaning self.now.system.now) (self.now.number + 1)
+            (minutes_of table.new.places) (rules_of table.new.places) }
+        ensures grown { Grown (Kept (minutes_of table.old.places) (rule (T.meaning self.now.system.now) self.now.number))
+            (minutes_of table.old.places) (minutes_of table.new.places) result }
+    {
+        let minute = self.least_asked(table);
+        let held = self.held();
+        if minute <= table.places[held].minute {
+            return false;
         }
+        table.places[held] = Place {
+            minute,
+            by: self.number,
+        };
+        true
     }
-    rose
+}
+
+impl Table {
+    // Goes through the rules once, raising where it has to.
+    pub(crate) fn round<T: RuleSystem>(&mut self, system: &T) -> bool
+        requires { Good (T.meaning system.now) 0 (minutes_of self.old.places) (rules_of self.old.places) }
+        ensures good { Good (T.meaning system.now) (length (T.meaning system.now).rules)
+            (minutes_of self.new.places) (rules_of self.new.places) }
+        ensures grown { Grown (AllKept (T.meaning system.now) (minutes_of self.old.places))
+            (minutes_of self.old.places) (minutes_of self.new.places) result }
+    {
+        let mut rose = false;
+        for number in 0..system.rules() {
+            rose |= Rule { system, number }.raise(self);
+        }
+        rose
+    }
 }

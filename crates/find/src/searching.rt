@@ -1,31 +1,28 @@
 // The search: rounds until the table stays, or the record shows that no table keeps the rules.
-ghost use Rattle.std.specs.Prelude.{◌≡◌, ℕ, ◌≤◌, length};
-ghost use Rattle.rules.specs.Rules.{at};
-ghost use Rattle.rules.specs.Search.{Good, Searched};
+ghost use Rattle.std.specs.Prelude.{MatchResult};
+ghost use Rattle.rules.specs.Loops.{Stuck};
+ghost use Rattle.rules.specs.Search.{Good, AllKept};
+ghost use Rattle.find.specs.Tables.{minutes_of, rules_of};
 
-use crate::marks::{first, mark, peel};
-use crate::rounds::round;
+use crate::loops::Barred;
+use crate::marks::Marks;
+use crate::tables::Table;
 use rules::system::RuleSystem;
 
-// Goes through the rules until the table keeps them all, or the rules that raised it show that none does: then `inside`
-// marks the places that bar each other, `by` has the rule of each, and one of them is the answer.
-pub(crate) fn search<T: RuleSystem>(
-    t: &T,
-    table: &mut [u32],
-    by: &mut [usize],
-    inside: &mut [bool],
-) -> Option<usize>
-    requires good { Good (T.meaning t.now) 0 table.old by.old }
-    requires wide { length inside.old ≡ 320 }
-    ensures low { (p : ℕ) → at table.new p ≤ 36771840 }
-    ensures searched { Searched (T.meaning t.now) table.new by.new inside.new result }
+// Goes through the rules until the table keeps them all, or the rules that raised it show that none does: then some places
+// bar each other.
+pub(crate) fn search<T: RuleSystem>(system: &T) -> Result<Table, Barred>
+    ensures { MatchResult result
+        (λ t. Good (T.meaning system.now) 0 (minutes_of t.places) (rules_of t.places) × AllKept (T.meaning system.now) (minutes_of t.places))
+        (λ b. Stuck (T.meaning system.now) (rules_of b.table.places) b.place) }
 {
-    while round(t, table, by) {
-        mark(table, inside);
-        peel(t, by, inside);
-        if let Some(p) = first(inside) {
-            return Some(p);
+    let mut table = Table::new();
+    while table.round(system) {
+        let mut marks = Marks::above_zero(&table);
+        marks.peel(system, &table);
+        if let Some(place) = marks.first() {
+            return Err(Barred { table, place });
         }
     }
-    None
+    Ok(table)
 }

@@ -1,0 +1,42 @@
+-- Where a walk saw each place: as numbers from 1 on, with 0 for a place that it has not seen.
+use Rattle.std.proofs.Common.{◌≡◌, ℕ, ◌+◌, ◌≤◌, List, length, map, get_or, set, Option, Some, None, sym, ap, ◌∙◌, subst, arith}
+use Rattle.std.proofs.Math.ListN.{get_or-map}
+use Rattle.std.proofs.lemmas.List.{map-set}
+use Rattle.rules.specs.Rules.{System, Sound, at, rule, alternative}
+use Rattle.rules.specs.Loops.{way}
+use Rattle.rules.proofs.Walks.{Walking, walks_on}
+use Rattle.find.specs.declared.tables.Place.{Place}
+use Rattle.find.specs.Tables.{rules_of}
+use Rattle.find.proofs.Places.{no_place, rule_at}
+
+abbrev pub number_of : Option ℕ → ℕ
+number_of None = 0
+number_of (Some n) = n + 1
+
+abbrev pub numbers : List (Option ℕ) → List ℕ
+numbers seen = map number_of seen
+
+pub seen_at : (seen : List (Option ℕ)) (p : ℕ) (o : Option ℕ) → get_or seen p None ≡ o → at (numbers seen) p ≡ number_of o
+seen_at seen p o e = get_or-map number_of seen p None ∙ ap number_of e
+
+pub seen_on : (seen : List (Option ℕ)) (p n : ℕ) → numbers (set seen p (Some n)) ≡ set (numbers seen) p (n + 1)
+seen_on seen p n = map-set number_of seen p (Some n)
+
+-- a place that was seen has its number among the rules so far
+pub seen_low : (m : System) (by : List ℕ) (seen : List (Option ℕ)) (out : List ℕ) (n p from : ℕ) → Walking m by (numbers seen) out n p →
+    get_or seen p None ≡ Some from → from + 1 ≤ n
+seen_low m by seen out n p from w e = let is = seen_at seen p (Some from) e in omega (arith, is, (w.back p (omega (arith, is))).0)
+
+-- the walk goes on to a place that it has not seen
+pub walks_more : (m : System) (sound : Sound m) (places : List Place) (seen : List (Option ℕ)) (out : List ℕ) (n p q : ℕ) →
+    Walking m (rules_of places) (numbers seen) out n p → m.places ≤ length out → get_or seen p None ≡ None →
+    q ≡ (alternative (rule m (get_or places p no_place).by) 0).place →
+    Walking m (rules_of places) (numbers (set seen p (Some n))) (set out n (get_or places p no_place).by) (n + 1) q
+walks_more m sound places seen out n p q w wide new is =
+    let by = rules_of places in
+    let e = rule_at places p in
+    let on = walks_on m sound by (numbers seen) out n p w wide (seen_at seen p None new) in
+    let there : (way m (at by p)).place ≡ q = ap (λ r. (way m r).place) e ∙ sym is in
+    subst (λ s. Walking m by s (set out n (get_or places p no_place).by) (n + 1) q) (sym (seen_on seen p n))
+    (subst (λ r. Walking m by (set (numbers seen) p (n + 1)) (set out n r) (n + 1) q) e
+    (subst (Walking m by (set (numbers seen) p (n + 1)) (set out n (at by p)) (n + 1)) there on))
