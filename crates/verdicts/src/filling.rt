@@ -7,7 +7,6 @@ ghost use Rattle.verdicts.specs.Searches.{part};
 ghost use Rattle.verdicts.specs.Verdicts.{size};
 
 use book::keeping::Book;
-use book::labels::meets;
 
 // What the minutes list has for a job: its minute, or -1 where it is not done.
 fn shown(done: bool, minute: i32) -> i32
@@ -23,9 +22,9 @@ fn fill_case(book: &Book, case: u8, table: &[i32], from: usize, minutes: &mut [i
     ensures { CaseFilled (held book.now) table.now from case minutes.old minutes.new }
 {
     let jobs = book.jobs();
-    let first = usize::from(case) * jobs.len();
+    let first = case as usize * jobs.len();
     for (j, job) in jobs.iter().enumerate() {
-        minutes[first + j] = shown(meets(job.label, case), table[from + j]);
+        minutes[first + j] = shown(job.label.meets(case), table[from + j]);
     }
 }
 
@@ -37,6 +36,6 @@ pub(crate) fn fill(book: &Book, table: &[i32], apart: usize, minutes: &mut [i32]
     ensures { Filled (held book.now) table.now apart minutes.old minutes.new }
 {
     for case in 0..book.cases() {
-        fill_case(book, case, table, usize::from(case) * apart, minutes);
+        fill_case(book, case, table, case as usize * apart, minutes);
     }
 }

@@ -15,7 +15,7 @@ use rules::parts::Origin;
 fn size(book: &Book) -> usize
     ensures { result ≡ size (held book.now) }
 {
-    usize::from(book.cases()) * book.jobs().len()
+    book.cases() as usize * book.jobs().len()
 }
 
 // Fills the minutes list with the table that the strong search found, if any, and says what to answer.
@@ -64,8 +64,10 @@ pub fn weak(book: &Book, minutes: &mut [i32], loops: &mut [Origin]) -> Result<We
     }
     let mut table = [0i32; 320];
     for case in 0..book.cases() {
-        if let Explained::Loop(length) = search_case(book, case, &mut table, loops)? {
-            return Ok(WeakAnswer::No { case, length });
+        let found = search_case(book, case, &mut table, loops)?;
+        match found {
+            Explained::Table => {}
+            Explained::Loop(length) => return Ok(WeakAnswer::No { case, length }),
         }
     }
     fill(book, &table, book.jobs().len(), minutes);
