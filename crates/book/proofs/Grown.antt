@@ -1,5 +1,5 @@
 -- A sound plain book with one job more is sound.
-use Rattle.std.proofs.Common.{◌≡◌, ℕ, ◌+◌, ◌<◌, ◌≤◌, cond, [], ◌∷◌, length, Some, None, Option, sym, refl, ap, ◌∙◌, subst, arith}
+use Rattle.std.proofs.Common.{◌≡◌, ℕ, ◌+◌, ◌<◌, ◌≤◌, cond, not, [], ◌∷◌, length, Some, None, Option, sym, refl, ap, ◌∙◌, subst, arith}
 use native.Mathlib.Decide.{dec_lt}
 use Rattle.std.proofs.lemmas.List.{get_or_append_left, get_or_push, length_push}
 use Rattle.std.proofs.lemmas.Bool.Decides.{Decides-eqb}
@@ -7,9 +7,9 @@ use Rattle.book.specs.declared.parts.Label.{Label}
 use Rattle.book.specs.declared.parts.Job.{Job}
 use Rattle.book.specs.declared.parts.Bound.{Bound}
 use Rattle.book.specs.Labels.{Names, WantsYes, WantsNo, Contains, Exclude}
-use Rattle.book.specs.Plain.{Plain, job, bound, checks, asking, no_job, one_if_check, place_of_check, with_job}
+use Rattle.book.specs.Plain.{Plain, job, bound, checks, asking, no_job, with_job}
 use Rattle.book.specs.Sound.{Sound, SoundJob, SoundBound}
-use Rattle.book.proofs.Checks.{count_push, place_push, place_past, place_found}
+use Rattle.book.proofs.Checks.{one_if_check, place, count_push, place_push, place_past, place_found}
 
 -- what a new job, with its check number if any, has to fit
 pub record Fits (b : Plain) (l : Label) (o : Option ℕ) : Type 0 where
@@ -24,9 +24,9 @@ last_check : (o : Option ℕ) (n c : ℕ) → ((d : ℕ) → o ≡ Some d → d 
 last_check None n c f h k = absurd (omega arith)
 last_check (Some d) n c f h k = let e = f d refl in ap Some (omega arith)
 
-found_last : (o : Option ℕ) (l : Label) (c : ℕ) → o ≡ Some c → place_of_check (record { label = l; check = o } ∷ []) c ≡ 0
+found_last : (o : Option ℕ) (l : Label) (c : ℕ) → o ≡ Some c → place (record { label = l; check = o } ∷ []) c ≡ 0
 found_last None l c e = let z : ◌≡◌ {A = ℕ} 0 1 = cc in absurd (omega arith)
-found_last (Some d) l c e = let f : d ≡ c = cc in ap (λ t. cond t 0 1) ((Decides-eqb d c).1 f)
+found_last (Some d) l c e = let f : d ≡ c = cc in ap (λ t. cond (not t) 1 0) ((Decides-eqb d c).1 f)
 
 module _ (b : Plain) (l : Label) (o : Option ℕ) (sound : Sound b) (fits : Fits b l o) where
   new : Job

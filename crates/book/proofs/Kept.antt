@@ -11,7 +11,7 @@ use Rattle.book.specs.declared.parts.Label.{Label}
 use Rattle.book.specs.declared.parts.Bound.{Bound}
 use Rattle.book.specs.declared.parts.Refusal.{Refusal}
 use Rattle.book.specs.Labels.{Names}
-use Rattle.book.specs.Plain.{Plain, job, checks, asking, no_bound, new_book, empty_label, exclude, one_if_check, with_job, with_bound}
+use Rattle.book.specs.Plain.{Plain, job, checks, asking, no_bound, new_book, empty_label, exclude, with_job, with_bound}
 use Rattle.book.specs.Plain.{without_bound, unless}
 use Rattle.book.specs.Plain.{add_job, add_check, add_bound, withdraw, job_refusal, check_refusal, bound_refusal, withdraw_refusal}
 use Rattle.book.specs.Sound.{Sound, SoundJob, SoundBound}
@@ -19,6 +19,7 @@ use Rattle.book.proofs.Bits.{bit_none}
 use Rattle.book.proofs.Tests.{differ, exclude_decides}
 use Rattle.book.proofs.Rows.{none_applies}
 use Rattle.book.proofs.Refused.{Taken, job_taken, check_taken, label_known, label_one_way, label_parts, label_contains}
+use Rattle.book.proofs.Checks.{one_if_check}
 use Rattle.book.proofs.Grown.{Fits, grown_sound}
 
 -- the empty label names nothing

@@ -4,18 +4,12 @@ use Rattle.std.proofs.lemmas.Bool.Decides.{nat_tests}
 use Rattle.book.specs.declared.parts.Label.{Label}
 use Rattle.book.specs.Labels.{bit, Names, WantsYes, WantsNo, Contains, names, wants_yes, wants_no}
 use Rattle.book.specs.Plain.{Plain, checks, job, asking, names_unknown, both_ways, lacks, part_missing, full_jobs, job_refusal, check_refusal}
-use Rattle.book.proofs.Bits.{bit_below}
 use Rattle.book.proofs.Rows.{none_applies}
-use Rattle.book.proofs.Tests.{none_below, names_decides, differ}
+use Rattle.book.proofs.Tests.{none_below, named_below, names_decides, differ}
 
 pub and_left_false : (x y : Bool) → x ≡ true → (x && y) ≡ false → y ≡ false
 and_left_false true y h e = e
 and_left_false false y h e = absurd (differ (sym h))
-
--- the label of a job, as a byte for each set, names no check past the eighth
-pub named_below : (l : Label) → l.yes < 2 ^ 8 → l.no < 2 ^ 8 → (c : ℕ) → Names l c → c < 8
-named_below l h k c (inl w) = bit_below l.yes 8 c h w
-named_below l h k c (inr w) = bit_below l.no 8 c k w
 
 module _ (b : Plain) (l : Label) (small_yes : l.yes < 2 ^ 8) (small_no : l.no < 2 ^ 8) where
   pub label_known : names_unknown b l ≡ false → (c : ℕ) → Names l c → c < checks b

@@ -1,13 +1,13 @@
 -- The tests on labels decide what they say.
-use Rattle.std.proofs.Common.{◌≡◌, ℕ, ◌+◌, ◌/◌, ◌^◌, ◌<◌, max, Bool, true, false, cond, not, ◌&&◌, ◌||◌, eqb, leb, ◌⊎◌, Decides, sym, refl}
-use Rattle.std.proofs.Common.{ap, ◌∙◌, add-one, arith}
+use Rattle.std.proofs.Common.{◌≡◌, ℕ, ◌+◌, ◌/◌, ◌^◌, ◌<◌, ◌≤◌, max, Bool, true, false, cond, not, ◌&&◌, ◌||◌, eqb, leb, ◌⊎◌, Decides, sym, refl, inl, inr}
+use Rattle.std.proofs.Common.{ap, ◌∙◌, arith}
 use lib.Bits.{bit_and, bit_or, or_lt}
 use Rattle.std.proofs.lemmas.Bool.Decides.{nat_tests, Decides-below_and, Decides-below_or, Decides-and, Decides-or, Decides-like, Decides-eqb}
 use Rattle.book.specs.declared.parts.Label.{Label}
 use Rattle.book.specs.Labels.{bit, Meets, Names, WantsYes, WantsNo, Exclude, wants_yes, wants_no, names, any_below, all_below}
 use Rattle.book.specs.Plain.{Plain, Done, job, both_ways, lacks, exclude}
 use Rattle.book.specs.Done.{met, met_by, done}
-use Rattle.book.proofs.Bits.{bit-bit_or, within_is, apart_is, low_is}
+use Rattle.book.proofs.Bits.{bit-bit_or, bit_below, within_is, apart_is, low_is}
 
 pub not-true : (x : Bool) → (x ≡ true → ⊥) → x ≡ false
 not-true true h = absurd (h refl)
@@ -26,9 +26,6 @@ any_decides n p = Decides-below_or p (λ k. p k ≡ true) (λ m. any_below m p) 
 
 pub none_below : (n : ℕ) (p : ℕ → Bool) → any_below n p ≡ false → (k : ℕ) → k < n → p k ≡ false
 none_below n p e k h = not-true (p k) (λ t. differ (sym ((any_decides n p).1 (k, h, t)) ∙ e))
-
-pub any_more : (n : ℕ) (p : ℕ → Bool) → p n ≡ false → any_below n p ≡ false → any_below (n + 1) p ≡ false
-any_more n p h k = rw add-one (ap (λ x. x || any_below n p) h ∙ k)
 
 pub any_holds : (n : ℕ) (p : ℕ → Bool) (k : ℕ) → k < n → p k ≡ true → any_below n p ≡ true
 any_holds n p k h t = (any_decides n p).1 (k, h, t)
@@ -109,6 +106,17 @@ names_is l c = at (bit l.yes c) (bit l.no c) (bit (bit_or l.yes l.no) c) (omega 
     at : (a b m : ℕ) → a < 2 → b < 2 → m ≡ max a b → eqb m 1 ≡ (eqb a 1 || eqb b 1)
     at a b m h k e = grind (arith, nat_tests)
 
+pub names_decides : (l : Label) (c : ℕ) → Decides (names l c) (Names l c)
+names_decides l c = Decides-or (wants_yes l c) (wants_no l c) (Decides-eqb (bit l.yes c) 1) (Decides-eqb (bit l.no c) 1)
+
+-- a label, as a byte for each set, names no check past the eighth
+pub named_below : (l : Label) → l.yes < 2 ^ 8 → l.no < 2 ^ 8 → (c : ℕ) → Names l c → c < 8
+named_below l h k c (inl w) = bit_below l.yes 8 c h w
+named_below l h k c (inr w) = bit_below l.no 8 c k w
+
+pub names_none : (l : Label) (c : ℕ) → l.yes < 2 ^ 8 → l.no < 2 ^ 8 → 8 ≤ c → names l c ≡ false
+names_none l c h k past = not-true (names l c) (λ e. let m = named_below l h k c ((names_decides l c).0 e) in omega arith)
+
 from_at : (m c k : ℕ) (t : Bool) → eqb m 1 ≡ t → Decides (not (t && leb c k)) (m ≡ 1 → k < c)
 from_at m c k true e = (λ t h. grind (arith, nat_tests), λ f. grind (arith, nat_tests, f))
 from_at m c k false e = (λ t h. grind (arith, nat_tests), λ f. refl)
@@ -135,9 +143,6 @@ done_decides b s j = met_by_decides (job b j).label s
 
 pub dec_done : (b : Plain) (s j : ℕ) → Dec (Done b s j)
 dec_done b s j = dec_of (done b s j) (done_decides b s j)
-
-pub names_decides : (l : Label) (c : ℕ) → Decides (names l c) (Names l c)
-names_decides l c = Decides-or (wants_yes l c) (wants_no l c) (Decides-eqb (bit l.yes c) 1) (Decides-eqb (bit l.no c) 1)
 
 pub exclude_decides : (l m : Label) → Decides (exclude l m) (Exclude l m)
 exclude_decides l m =

@@ -1,8 +1,8 @@
 -- Which jobs are done in a case, and which job a check is, as tests and numbers.
-use Rattle.std.specs.Prelude.{ℕ, Bool, true, cond, ◌&&◌, length, Some, None, Option, ◌==◌, nat_lt}
+use Rattle.std.specs.Prelude.{ℕ, Bool, true, cond, ◌&&◌, Option, ◌==◌, position}
 use Rattle.book.specs.declared.parts.Label.{Label}
 use Rattle.book.specs.Labels.{bit, all_below}
-use Rattle.book.specs.Plain.{Plain, job, asking}
+use Rattle.book.specs.Plain.{Plain, is_check, job}
 
 -- what a case says of one check (`said`, 1 for yes) is what is wanted, where yes or no is wanted (1)
 abbrev pub met : ℕ → ℕ → ℕ → Bool
@@ -18,4 +18,4 @@ done b s j = met_by (job b j).label s
 
 -- the job that is check c, if there is one
 abbrev pub check_job : Plain → ℕ → Option ℕ
-check_job b c = cond (nat_lt (asking b c) (length b.jobs)) (Some (asking b c)) None
+check_job b c = position (λ j. is_check j c) b.jobs

@@ -1,12 +1,17 @@
 -- Whole lists of calls, fed to the plain book.
-use Rattle.std.specs.Prelude.{◌<◌, List, [], ◌∷◌, Ok, Err, Result}
+use Rattle.std.specs.Prelude.{◌<◌, List, [], ◌∷◌, Result}
+use Rattle.std.specs.Result.{result_map_both}
 use Rattle.book.specs.declared.parts.Label.{Label}
 use Rattle.book.specs.declared.parts.Call.{Call}
 use Rattle.book.specs.declared.parts.Call.TheVariants.{AddJob, AddCheck, AddBound, Withdraw}
-use Rattle.book.specs.declared.parts.Answer.{Answer}
-use Rattle.book.specs.declared.parts.Answer.TheVariants.{NewJob, NewBound, Withdrawn, Refused}
+use Rattle.book.specs.declared.parts.Taken.{Taken}
+use Rattle.book.specs.declared.parts.Taken.TheVariants.{NewJob, NewBound, Withdrawn}
 use Rattle.book.specs.declared.parts.Refusal.{Refusal}
 use Rattle.book.specs.Plain.{Plain, new_book, add_job, add_check, add_bound, withdraw}
+
+-- what a call is answered
+abbrev pub Answer : Type 0
+Answer = Result Taken Refusal
 
 -- the plain book after one call
 abbrev pub fed_one : Plain → Call → Plain
@@ -15,10 +20,9 @@ fed_one b (AddCheck l) = (add_check b l).after
 fed_one b (AddBound l) = (add_bound b l).after
 fed_one b (Withdraw n) = (withdraw b n).after
 
--- what it answers
-abbrev pub answered : {A : Type 0} → (A → Answer) → Result A Refusal → Answer
-answered f (Ok a) = f a
-answered f (Err r) = Refused r
+-- what it answers: the number that a call of the plain book answers, as a job's or a bound's; a refusal as it is
+abbrev pub answered : {A : Type 0} → (A → Taken) → Result A Refusal → Answer
+answered f r = result_map_both f (λ e. e) r
 
 abbrev pub answer_one : Plain → Call → Answer
 answer_one b (AddJob l) = answered NewJob (add_job b l).answer

@@ -1,7 +1,8 @@
 -- The plain book: a list of jobs and a list of bounds, and what each call does to them and answers.
-use Rattle.std.specs.Prelude.{ℕ, suc, ◌+◌, ◌^◌, ◌<◌, Bool, false, cond, not, ◌&&◌, ◌||◌, List, [], ◌∷◌, ◌++◌, length, pos, Some, None, Ok}
-use Rattle.std.specs.Prelude.{Err, vec_items, Option, Result, ◌==◌, nat_le, slice_index_or, unsigned_abs}
-use Rattle.std.specs.List.{remove}
+use Rattle.std.specs.Prelude.{ℕ, ◌^◌, ◌<◌, Bool, cond, not, ◌&&◌, ◌||◌, List, [], ◌∷◌, ◌++◌, length, pos, Some, None, Ok}
+use Rattle.std.specs.Prelude.{Err, vec_items, Option, Result, is_some, ◌==◌, nat_eq, nat_le, slice_index_or, unsigned_abs}
+use Rattle.std.specs.List.{remove, count_by, position_or_len}
+use Rattle.std.specs.Option.{option_eq}
 use Rattle.book.specs.declared.parts.Label.{Label}
 use Rattle.book.specs.declared.parts.Job.{Job}
 use Rattle.book.specs.declared.parts.Kind.TheVariants.{Least}
@@ -40,32 +41,20 @@ abbrev pub bound : Plain → ℕ → Bound
 bound b i = slice_index_or b.bounds i no_bound
 
 -- how many of the jobs are checks
-abbrev pub one_if_check : Option ℕ → ℕ
-one_if_check None = 0
-one_if_check (Some c) = 1
-
-abbrev pub checks_among : List Job → ℕ
-checks_among [] = 0
-checks_among (j ∷ js) = one_if_check j.check + checks_among js
-
 abbrev pub checks : Plain → ℕ
-checks b = checks_among b.jobs
+checks b = count_by (λ j. is_some j.check) b.jobs
 
 -- with k checks there are 2 to the k cases
 abbrev pub cases : Plain → ℕ
 cases b = 2 ^ checks b
 
+-- the job is check c
+abbrev pub is_check : Job → ℕ → Bool
+is_check j c = option_eq nat_eq j.check (Some c)
+
 -- the number of the job that is check c (past the last job where there is none)
-abbrev pub is_check : Option ℕ → ℕ → Bool
-is_check None c = false
-is_check (Some d) c = d == c
-
-abbrev pub place_of_check : List Job → ℕ → ℕ
-place_of_check [] c = 0
-place_of_check (j ∷ js) c = cond (is_check j.check c) 0 (suc (place_of_check js c))
-
 abbrev pub asking : Plain → ℕ → ℕ
-asking b c = place_of_check b.jobs c
+asking b c = position_or_len (λ j. is_check j c) b.jobs
 
 -- a case of the book, and a job done in a case: the case meets its whole label
 abbrev pub Case : Plain → ℕ → Type 0

@@ -4,9 +4,7 @@ ghost use Rattle.book.specs.Plain.{new_book, add_job, add_check, add_bound, with
 ghost use Rattle.book.specs.Held.{held};
 ghost use Rattle.book.specs.Done.{done, check_job};
 
-use crate::jobs::place;
 use crate::keeping::Book;
-use crate::labels::meets;
 use crate::parts::{Bound, Job, Label, Refusal, Table};
 use std::alloc::{AllocError, Global};
 
@@ -17,7 +15,7 @@ impl Book {
     {
         let mut jobs = Vec::with_capacity(heap, 20)?;
         let bounds = Vec::with_capacity(heap, 64)?;
-        let label = Label { yes: 0, no: 0 };
+        let label = Label::default();
         jobs.push_reserved(Job { label, check: None });
         Ok(Book {
             table: Table { jobs, bounds },
@@ -88,19 +86,14 @@ impl Book {
     pub fn check_job(&self, c: u8) -> Option<usize>
         ensures { result ≡ check_job (held self.now) c }
     {
-        let j = place(self.jobs(), c);
-        if j < self.table.jobs.len() {
-            Some(j)
-        } else {
-            None
-        }
+        self.table.check_job(c)
     }
 
     // Whether a job is done in a case: whether the case meets its label, which is empty past the last job.
     pub fn done(&self, case: u8, j: usize) -> bool
         ensures { result ≡ done (held self.now) case j }
     {
-        meets(self.table.label(j), case)
+        self.table.label(j).meets(case)
     }
 
     // Makes this book hold what another holds.

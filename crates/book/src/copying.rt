@@ -5,10 +5,8 @@ ghost use Rattle.std.specs.Prelude.{◌≡◌, ◌≤◌, length, vec_capacity};
 pub(crate) fn refill<T: Copy + Drop>(list: &mut Vec<T>, from: &[T])
     requires room { length from.now ≤ vec_capacity list.old }
     ensures items { list.new.items ≡ from.now }
-    ensures capacity { vec_capacity list.new ≡ vec_capacity list.old }
+    ensures capacity { vec_capacity list.old ≤ vec_capacity list.new }
 {
     list.clear();
-    for x in from {
-        list.push_reserved(*x);
-    }
+    list.extend_from_slice(from).unwrap()
 }

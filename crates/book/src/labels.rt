@@ -5,46 +5,47 @@ ghost use Rattle.book.specs.Plain.{both_ways, lacks, exclude};
 
 use crate::parts::Label;
 
-// Whether the case says what the label wants of each check.
-pub fn meets(label: Label, case: u8) -> bool
-    ensures { Decides result (Meets label case) }
-{
-    (label.yes & case == label.yes) & (case & label.no == 0)
-}
+impl Label {
+    // Whether the case says what the label wants of each check.
+    pub fn meets(self, case: u8) -> bool
+        ensures { Decides result (Meets self case) }
+    {
+        (self.yes & case == self.yes) & (case & self.no == 0)
+    }
 
-// Whether the label names check c.
-pub(crate) fn names_check(label: Label, c: u8) -> bool
-    requires few { c < 8 }
-    ensures { result ≡ names label c }
-{
-    ((label.yes | label.no) >> c) % 2 == 1
-}
+    // Whether the label names check c.
+    pub fn names(self, c: u8) -> bool
+        ensures { result ≡ names self c }
+    {
+        c < 8 && ((self.yes | self.no) >> c) % 2 == 1
+    }
 
-// Whether the label names a check from this number on.
-pub(crate) fn names_from(label: Label, checks: u8) -> bool
-    requires few { checks < 8 }
-    ensures { result ≡ any_below 8 (λ k. names label k && nat_le checks k) }
-{
-    (label.yes | label.no) >> checks != 0
-}
+    // Whether the label names a check from this number on.
+    pub(crate) fn names_from(self, checks: u8) -> bool
+        requires few { checks < 8 }
+        ensures { result ≡ any_below 8 (λ k. names self k && nat_le checks k) }
+    {
+        (self.yes | self.no) >> checks != 0
+    }
 
-// Whether the label wants a check both yes and no.
-pub(crate) fn wants_both(label: Label) -> bool
-    ensures { result ≡ both_ways label }
-{
-    label.yes & label.no != 0
-}
+    // Whether the label wants a check both yes and no.
+    pub(crate) fn wants_both(self) -> bool
+        ensures { result ≡ both_ways self }
+    {
+        self.yes & self.no != 0
+    }
 
-// Whether the label lacks part of another.
-pub(crate) fn lacks_part(label: Label, part: Label) -> bool
-    ensures { result ≡ lacks label part }
-{
-    (part.yes & label.yes != part.yes) | (part.no & label.no != part.no)
-}
+    // Whether the label lacks part of another.
+    pub(crate) fn lacks(self, part: Label) -> bool
+        ensures { result ≡ lacks self part }
+    {
+        (part.yes & self.yes != part.yes) | (part.no & self.no != part.no)
+    }
 
-// Whether one label wants yes of a check of which the other wants no.
-pub(crate) fn excludes(label: Label, other: Label) -> bool
-    ensures { result ≡ exclude label other }
-{
-    (label.yes & other.no != 0) | (label.no & other.yes != 0)
+    // Whether one label wants yes of a check of which the other wants no.
+    pub(crate) fn excludes(self, other: Label) -> bool
+        ensures { result ≡ exclude self other }
+    {
+        (self.yes & other.no != 0) | (self.no & other.yes != 0)
+    }
 }

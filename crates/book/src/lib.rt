@@ -3,7 +3,6 @@
 
 pub mod calls;
 mod copying;
-mod jobs;
 pub mod keeping;
 pub mod labels;
 pub mod list;

@@ -1,12 +1,11 @@
 // Whole lists of calls.
 ghost use Rattle.std.specs.Prelude.{◌≡◌, IfOk};
-ghost use Rattle.book.specs.declared.parts.Answer.TheVariants.{NewJob, NewBound, Withdrawn};
 ghost use Rattle.book.specs.Plain.{new_book};
 ghost use Rattle.book.specs.Held.{held};
-ghost use Rattle.book.specs.Fed.{fed, answers, fed_one, answered, answer_one};
+ghost use Rattle.book.specs.Fed.{fed, answers, fed_one, answer_one};
 
 use crate::keeping::Book;
-use crate::parts::{Answer, Call, Refusal};
+use crate::parts::{Answer, Call, Taken};
 use std::alloc::{AllocError, Global};
 
 // A book, and the answers of the calls that made it.
@@ -16,46 +15,16 @@ pub struct Carried {
     pub given: Vec<Answer>,
 }
 
-// The answer of a call that adds a job or a check.
-fn job_answer(outcome: Result<usize, Refusal>) -> Answer
-    ensures { result ≡ answered NewJob outcome }
-{
-    match outcome {
-        Ok(n) => Answer::NewJob(n),
-        Err(refusal) => Answer::Refused(refusal),
-    }
-}
-
-// The answer of a call that adds a bound.
-fn bound_answer(outcome: Result<usize, Refusal>) -> Answer
-    ensures { result ≡ answered NewBound outcome }
-{
-    match outcome {
-        Ok(n) => Answer::NewBound(n),
-        Err(refusal) => Answer::Refused(refusal),
-    }
-}
-
-// The answer of a call that withdraws a bound.
-fn withdraw_answer(outcome: Result<(), Refusal>) -> Answer
-    ensures { result ≡ answered (λ _. Withdrawn) outcome }
-{
-    match outcome {
-        Ok(_) => Answer::Withdrawn,
-        Err(refusal) => Answer::Refused(refusal),
-    }
-}
-
 // Carries out one call on a book.
 pub fn carry(book: &mut Book, call: Call) -> Answer
     ensures answer { result ≡ answer_one (held book.old) call }
     ensures after { held book.new ≡ fed_one (held book.old) call }
 {
     match call {
-        Call::AddJob(label) => job_answer(book.add_job(label)),
-        Call::AddCheck(label) => job_answer(book.add_check(label)),
-        Call::AddBound(bound) => bound_answer(book.add_bound(bound)),
-        Call::Withdraw(n) => withdraw_answer(book.withdraw(n)),
+        Call::AddJob(label) => book.add_job(label).map(Taken::NewJob),
+        Call::AddCheck(label) => book.add_check(label).map(Taken::NewJob),
+        Call::AddBound(bound) => book.add_bound(bound).map(Taken::NewBound),
+        Call::Withdraw(n) => book.withdraw(n).map(|_| Taken::Withdrawn),
     }
 }
 

@@ -1,17 +1,16 @@
 // The two lists of a book: what is asked of them, and how they change.
-ghost use Rattle.std.specs.Prelude.{◌≡◌, ◌<◌, ◌&&◌, [], ◌∷◌, nat_le, unsigned_abs};
+ghost use Rattle.std.specs.Prelude.{◌≡◌, ◌&&◌, [], ◌∷◌, None, Some, MatchResult, nat_le, unsigned_abs};
 ghost use Rattle.book.specs.Labels.{names};
 ghost use Rattle.book.specs.Plain.{plain, checks, asking, job, lacks, part_missing, row, first_row};
 ghost use Rattle.book.specs.Plain.{names_unknown, both_ways};
 ghost use Rattle.book.specs.Plain.{job_refusal, check_refusal, bound_refusal};
 ghost use Rattle.book.specs.declared.parts.Refusal.TheVariants.{UnknownCheck, BothWays, PartMissing};
 ghost use Rattle.book.specs.Plain.{add_job, add_check, add_bound, withdraw};
+ghost use Rattle.book.specs.Done.{check_job};
 ghost use Rattle.book.specs.Room.{Roomy};
 ghost use Rattle.book.specs.Sound.{Sound};
 
 use crate::copying::refill;
-use crate::jobs::{count_checks, place};
-use crate::labels::{excludes, lacks_part, names_check, names_from, wants_both};
 use crate::parts::{Bound, Job, Label, Refusal, Table};
 
 // Whether minutes lie beyond three days, either way.
@@ -21,40 +20,51 @@ fn beyond(minutes: i32) -> bool
     minutes < -4320 || minutes > 4320
 }
 
+// A rule of the project keeps what is well formed in the type over the plain struct: Book holds that its table is sound and has
+// room, so the methods here require it.
 impl Table {
     // How many of the jobs are checks.
     pub(crate) fn checks(&self) -> u8
         requires sound { Sound (plain self.now) }
         ensures { result ≡ checks (plain self.now) }
     {
-        count_checks(self.jobs.as_slice())
+        self.jobs.iter().filter(|job| job.check.is_some()).count() as u8
+    }
+
+    // The number of the job that is check c, if there is one.
+    pub(crate) fn check_job(&self, c: u8) -> Option<usize>
+        ensures { result ≡ check_job (plain self.now) c }
+    {
+        self.jobs.iter().position(|job| job.check == Some(c))
     }
 
     // The label of a job, and the empty label past the last job.
     pub(crate) fn label(&self, j: usize) -> Label
         ensures { result ≡ (job (plain self.now) j).label }
     {
-        if j < self.jobs.len() {
-            self.jobs[j].label
-        } else {
-            Label { yes: 0, no: 0 }
-        }
+        self.jobs.get(j).map_or(Label::default(), |job| job.label)
+    }
+
+    // The label of check c, and the empty label where there is no such check.
+    fn check_label(&self, c: u8) -> Label
+        ensures { result ≡ (job (plain self.now) (asking (plain self.now) c)).label }
+    {
+        self.check_job(c)
+            .map_or(Label::default(), |j| self.label(j))
     }
 
     // Whether the label names check c and lacks part of its label.
     fn lacks_check(&self, label: Label, c: u8) -> bool
-        requires few { c < 8 }
         ensures { result ≡ (names label c && lacks label (job (plain self.now) (asking (plain self.now) c)).label) }
     {
-        let asking = place(self.jobs.as_slice(), c);
-        names_check(label, c) & lacks_part(label, self.label(asking))
+        label.names(c) && label.lacks(self.check_label(c))
     }
 
     // Whether the label lacks part of the label of a check that it names.
     fn lacks_any(&self, label: Label) -> bool
         ensures { result ≡ part_missing (plain self.now) label }
     {
-        for c in 0..8u8 {
+        for c in 0..8 {
             if self.lacks_check(label, c) {
                 return true;
             }
@@ -62,74 +72,77 @@ impl Table {
         false
     }
 
-    // Why the label of a new job is not taken.
-    fn label_refusal(&self, label: Label) -> Option<Refusal>
+    // Refuses the label of a new job that is not taken.
+    fn allow_label(&self, label: Label) -> Result<(), Refusal>
         requires sound { Sound (plain self.now) }
-        ensures { result ≡ first_row (
+        ensures { let refusal = first_row (
             row (names_unknown (plain self.now) label) UnknownCheck
             ∷ row (both_ways label) BothWays
             ∷ row (part_missing (plain self.now) label) PartMissing
             ∷ []
-            ) }
+            ) in MatchResult result (λ _. refusal ≡ None) (λ r. refusal ≡ Some r) }
     {
-        if names_from(label, self.checks()) {
-            return Some(Refusal::UnknownCheck);
+        if label.names_from(self.checks()) {
+            return Err(Refusal::UnknownCheck);
         }
-        if wants_both(label) {
-            return Some(Refusal::BothWays);
+        if label.wants_both() {
+            return Err(Refusal::BothWays);
         }
         if self.lacks_any(label) {
-            return Some(Refusal::PartMissing);
+            return Err(Refusal::PartMissing);
         }
-        None
+        Ok(())
     }
 
-    // Why a new job is not taken.
-    fn job_refusal(&self, label: Label) -> Option<Refusal>
+    // Refuses a new job that is not taken.
+    fn allow_job(&self, label: Label) -> Result<(), Refusal>
         requires sound { Sound (plain self.now) }
-        ensures { result ≡ job_refusal (plain self.now) label }
+        ensures { MatchResult result (λ _. job_refusal (plain self.now) label ≡ None)
+            (λ r. job_refusal (plain self.now) label ≡ Some r) }
     {
         if self.jobs.len() >= 20 {
-            return Some(Refusal::JobsFull);
+            return Err(Refusal::JobsFull);
         }
-        self.label_refusal(label)
+        self.allow_label(label)
     }
 
-    // Why a new check is not taken.
-    fn check_refusal(&self, label: Label) -> Option<Refusal>
+    // Refuses a new check that is not taken.
+    fn allow_check(&self, label: Label) -> Result<(), Refusal>
         requires sound { Sound (plain self.now) }
-        ensures { result ≡ check_refusal (plain self.now) label }
+        ensures { MatchResult result (λ _. check_refusal (plain self.now) label ≡ None)
+            (λ r. check_refusal (plain self.now) label ≡ Some r) }
     {
         if self.jobs.len() >= 20 {
-            return Some(Refusal::JobsFull);
+            return Err(Refusal::JobsFull);
         }
         if self.checks() >= 4 {
-            return Some(Refusal::ChecksFull);
+            return Err(Refusal::ChecksFull);
         }
-        self.label_refusal(label)
+        self.allow_label(label)
     }
 
-    // Why a new bound is not taken.
-    fn bound_refusal(&self, bound: Bound) -> Option<Refusal>
-        ensures { result ≡ bound_refusal (plain self.now) bound }
+    // Refuses a new bound that is not taken.
+    fn allow_bound(&self, bound: Bound) -> Result<(), Refusal>
+        ensures { MatchResult result (λ _. bound_refusal (plain self.now) bound ≡ None)
+            (λ r. bound_refusal (plain self.now) bound ≡ Some r) }
     {
         let jobs = self.jobs.len();
         if bound.first >= jobs || bound.second >= jobs {
-            return Some(Refusal::UnknownJob);
+            return Err(Refusal::UnknownJob);
         }
         if beyond(bound.minutes) {
-            return Some(Refusal::MinutesBeyond);
+            return Err(Refusal::MinutesBeyond);
         }
         if bound.first == bound.second {
-            return Some(Refusal::SameJob);
+            return Err(Refusal::SameJob);
         }
-        if excludes(self.label(bound.first), self.label(bound.second)) {
-            return Some(Refusal::Exclusive);
+        if self.label(bound.first).excludes(self.label(bound.second)) {
+            return Err(Refusal::Exclusive);
         }
         if self.bounds.len() >= 64 {
-            return Some(Refusal::BoundsFull);
+            return Err(Refusal::BoundsFull);
         }
-        None
+        Ok(())
     }
 
     // Adds a job and answers its number, or refuses and alters nothing.
@@ -140,9 +153,7 @@ impl Table {
         ensures after { plain self.new ≡ (add_job (plain self.old) label).after }
         ensures room { Roomy self.new }
     {
-        if let Some(refusal) = self.job_refusal(label) {
-            return Err(refusal);
-        }
+        self.allow_job(label)?;
         let n = self.jobs.len();
         self.jobs.push_reserved(Job { label, check: None });
         Ok(n)
@@ -156,9 +167,7 @@ impl Table {
         ensures after { plain self.new ≡ (add_check (plain self.old) label).after }
         ensures room { Roomy self.new }
     {
-        if let Some(refusal) = self.check_refusal(label) {
-            return Err(refusal);
-        }
+        self.allow_check(label)?;
         let n = self.jobs.len();
         let check = Some(self.checks());
         self.jobs.push_reserved(Job { label, check });
@@ -172,9 +181,7 @@ impl Table {
         ensures after { plain self.new ≡ (add_bound (plain self.old) bound).after }
         ensures room { Roomy self.new }
     {
-        if let Some(refusal) = self.bound_refusal(bound) {
-            return Err(refusal);
-        }
+        self.allow_bound(bound)?;
         let n = self.bounds.len();
         self.bounds.push_reserved(bound);
         Ok(n)

@@ -4,15 +4,12 @@
 #[cfg(test)]
 mod tests {
     use book::list::carry_out;
-    use book::parts::{Answer, Bound, Call, Kind, Label};
+    use book::parts::{Answer, Bound, Call, Kind, Label, Refusal};
     use std::test::Fail;
 
-    // The number of a refusal, 0 for any other answer.
-    fn refusal(answer: Answer) -> u8 {
-        match answer {
-            Answer::Refused(refusal) => refusal.number(),
-            _ => 0,
-        }
+    // The number of the refusal, if the call is refused.
+    fn refusal(answer: Answer) -> Option<u8> {
+        answer.err().map(Refusal::number)
     }
 
     fn bound(first: usize, second: usize, minutes: i32) -> Call {
@@ -27,7 +24,7 @@ mod tests {
     // Check 0 is `wet`; `pump` wants yes of it and `seal` no.
     #[test]
     fn bounds_are_taken_or_refused(rt: HostRuntime) -> Result<(), Fail> {
-        let wet = Call::AddCheck(Label { yes: 0, no: 0 });
+        let wet = Call::AddCheck(Label::default());
         let pump = Call::AddJob(Label { yes: 1, no: 0 });
         let seal = Call::AddJob(Label { yes: 0, no: 1 });
         let calls = [
@@ -39,27 +36,27 @@ mod tests {
             bound(2, 3, 5),
         ];
         let carried = carry_out(rt.alloc(), &calls)?;
-        assert!(rt; carried.given.len() == 6);
-        assert!(rt; refusal(carried.given[3]) == 0);
-        assert!(rt; refusal(carried.given[4]) == 7);
-        assert!(rt; refusal(carried.given[5]) == 9);
-        assert!(rt; carried.book.bounds().len() == 1);
+        assert_eq!(rt; carried.given.len(), 6);
+        assert_eq!(rt; refusal(carried.given[3]), None);
+        assert_eq!(rt; refusal(carried.given[4]), Some(7));
+        assert_eq!(rt; refusal(carried.given[5]), Some(9));
+        assert_eq!(rt; carried.book.bounds().len(), 1);
         Ok(())
     }
 
     // Check 1 is `core`, on a no of `wet`: a job on a yes of `core` wants a no of `wet` too.
     #[test]
     fn labels_are_whole_or_refused(rt: HostRuntime) -> Result<(), Fail> {
-        let wet = Call::AddCheck(Label { yes: 0, no: 0 });
+        let wet = Call::AddCheck(Label::default());
         let core = Call::AddCheck(Label { yes: 0, no: 1 });
         let part = Call::AddJob(Label { yes: 2, no: 0 });
         let whole = Call::AddJob(Label { yes: 2, no: 1 });
         let carried = carry_out(rt.alloc(), &[wet, core, part, whole])?;
-        assert!(rt; carried.given.len() == 4);
-        assert!(rt; refusal(carried.given[1]) == 0);
-        assert!(rt; refusal(carried.given[2]) == 5);
-        assert!(rt; refusal(carried.given[3]) == 0);
-        assert!(rt; carried.book.jobs().len() == 4);
+        assert_eq!(rt; carried.given.len(), 4);
+        assert_eq!(rt; refusal(carried.given[1]), None);
+        assert_eq!(rt; refusal(carried.given[2]), Some(5));
+        assert_eq!(rt; refusal(carried.given[3]), None);
+        assert_eq!(rt; carried.book.jobs().len(), 4);
         Ok(())
     }
 }

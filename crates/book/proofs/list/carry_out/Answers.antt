@@ -1,8 +1,5 @@
-use Rattle.std.proofs.Common.{vec_items, ap, ◌∙◌, arith}
-use Rattle.std.proofs.lemmas.List.{take_all}
-use Rattle.book.specs.Plain.{new_book}
+use Rattle.std.proofs.Common.{vec_items, arith}
 use Rattle.book.specs.Held.{held}
-use Rattle.book.specs.Fed.{fed, answers}
 use Rattle.book.proofs.Always.{carried}
 use Rattle.book.proofs.list.carry_out.Goals as goal
 
@@ -13,8 +10,3 @@ loop-call-preserved c =
     (vec_items c.loop-call.given) (vec_items c.push_reserved.new.self) c.carry.result c.loop-call-test.true
     i.0 i.1 c.carry.ensures.answer c.carry.ensures.after c.push_reserved.ensures.items in
     (s.0, s.1, omega (arith, c.push_reserved.ensures.len, i.2), omega (arith, c.push_reserved.ensures.capacity, i.3))
-
-pub returns : goal.returns
-returns c =
-    let all = take_all c.loop-call.call-index c.args.calls.now c.loop-call-test.false in
-    (c.loop-call.invariant.0 ∙ ap fed all, c.loop-call.invariant.1 ∙ ap (answers new_book) all)

@@ -4,8 +4,8 @@ use Rattle.book.specs.Sound.{Sound}
 use Rattle.book.proofs.Kept.{add_check_keeps}
 use Rattle.book.proofs.keeping.Book.add_check.Goals as goal
 
-pub add_check-requires : goal.add_check-requires
-add_check-requires c = record { sound = held_sound c.args.self.now; room = c.args.self.now.room }
+pub add_check-requires-clause-sound : goal.add_check-requires-clause-sound
+add_check-requires-clause-sound c = held_sound c.args.self.now
 
 pub invariant_of-self : goal.invariant_of-self
 invariant_of-self c =

@@ -4,8 +4,8 @@ use Rattle.book.specs.Sound.{Sound}
 use Rattle.book.proofs.Kept.{add_job_keeps}
 use Rattle.book.proofs.keeping.Book.add_job.Goals as goal
 
-pub add_job-requires : goal.add_job-requires
-add_job-requires c = record { sound = held_sound c.args.self.now; room = c.args.self.now.room }
+pub add_job-requires-clause-sound : goal.add_job-requires-clause-sound
+add_job-requires-clause-sound c = held_sound c.args.self.now
 
 pub invariant_of-self : goal.invariant_of-self
 invariant_of-self c =

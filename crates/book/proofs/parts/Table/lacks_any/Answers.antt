@@ -1,7 +1,7 @@
 use Rattle.std.proofs.Common.{◌≡◌, ◌&&◌, sym, ap, ◌∙◌, arith}
 use Rattle.book.specs.Labels.{names, any_below}
 use Rattle.book.specs.Plain.{plain, job, asking, lacks}
-use Rattle.book.proofs.Tests.{any_holds, any_more}
+use Rattle.book.proofs.Tests.{any_holds}
 use Rattle.book.proofs.parts.Table.lacks_any.Goals as goal
 
 pub returns-then-lacks_check : goal.returns-then-lacks_check
@@ -9,12 +9,6 @@ returns-then-lacks_check c =
     let b = plain c.args.self.now in
     let l = c.args.label in
     sym (any_holds 8 (λ k. names l k && lacks l (job b (asking b k)).label) c.loop-c.c (omega arith) (sym c.if-lacks_check.ensures))
-
-pub loop-c-preserved : goal.loop-c-preserved
-loop-c-preserved c =
-    let b = plain c.args.self.now in
-    let l = c.args.label in
-    any_more c.loop-c.c (λ k. names l k && lacks l (job b (asking b k)).label) (sym c.if-lacks_check.ensures) c.loop-c.invariant
 
 pub returns : goal.returns
 returns c =

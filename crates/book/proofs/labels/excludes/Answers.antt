@@ -1,6 +1,0 @@
-use Rattle.std.proofs.Common.{arith}
-use Rattle.book.proofs.Tests.{exclude_is}
-use Rattle.book.proofs.labels.excludes.Goals as goal
-
-pub returns : goal.returns
-returns c = exclude_is c.args.label c.args.other (omega arith) (omega arith) (omega arith) (omega arith)

@@ -1,6 +1,0 @@
-use Rattle.std.proofs.Common.{arith}
-use Rattle.book.proofs.Tests.{lacks_is}
-use Rattle.book.proofs.labels.lacks_part.Goals as goal
-
-pub returns : goal.returns
-returns c = lacks_is c.args.label c.args.part (omega arith) (omega arith) (omega arith) (omega arith)

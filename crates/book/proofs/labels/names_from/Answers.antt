@@ -1,6 +1,0 @@
-use Rattle.std.proofs.Common.{arith}
-use Rattle.book.proofs.Tests.{from_is}
-use Rattle.book.proofs.labels.names_from.Goals as goal
-
-pub returns : goal.returns
-returns c = from_is c.args.label c.args.checks (omega arith) (omega arith)
