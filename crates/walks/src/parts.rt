@@ -1,21 +1,33 @@
 // What a log of a run is made of.
+ghost use Rattle.std.specs.Prelude.{◌≡◌};
+ghost use Rattle.walks.specs.declared.parts.Event.TheVariants.{Told};
 
 // A minute, and the set of the jobs due in it: bit j is set for job j.
-#[derive(Clone, Copy)]
+#[derive(Clone, Copy, PartialEq, Eq, Debug, Default)]
 pub struct Telling {
     pub minute: u32,
     pub jobs: u32,
 }
 
 // The outcome of a check, as the crew reports it.
-#[derive(Clone, Copy)]
+#[derive(Clone, Copy, PartialEq, Eq, Debug)]
 pub struct Report {
     pub check: u8,
     pub yes: bool,
 }
 
-#[derive(Clone, Copy)]
+// What a log holds.
+#[derive(Clone, Copy, PartialEq, Eq, Debug)]
 pub enum Event {
     Told(Telling),
     Reported(Report),
+}
+
+// The telling of no job at minute 0, which fills the unused places of a log.
+impl Default for Event {
+    ghost is_default = { λ e. e ≡ Told (record { minute = 0; jobs = 0 }) };
+
+    fn default() -> Event {
+        Event::Told(Telling::default())
+    }
 }

@@ -2,15 +2,11 @@
 ghost use Rattle.walks.specs.Law.{LawfulKeepLaw, EndedAreWhole};
 
 // Every lawful log keeps the law.
-pub fn lawful_keep_law() -> u8
+pub fn lawful_keep_law()
     ensures { LawfulKeepLaw }
-{
-    0
-}
+{}
 
 // At the end every agreeing case had all its jobs told, each once.
-pub fn ended_are_whole() -> u8
+pub fn ended_are_whole()
     ensures { EndedAreWhole }
-{
-    0
-}
+{}
