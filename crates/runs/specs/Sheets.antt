@@ -1,5 +1,5 @@
 -- A run sheet, as its plan and the minutes of its plan.
-use Rattle.std.specs.Prelude.{◌≡◌, List, ℤ}
+use Rattle.std.specs.Prelude.{◌≡◌}
 use Rattle.book.specs.Held.{held}
 use Rattle.book.specs.Plain.{Plain}
 use Rattle.grades.specs.Grades.{Minutes, Dynamic}
@@ -17,11 +17,6 @@ times r = read (plan r) r.minutes
 -- a book has no dynamic strategy
 abbrev pub NoDynamic : Plain → Type 0
 NoDynamic b = (minute : Minutes) → Dynamic b minute → ⊥
-
--- a list of minutes is made ready for a book exactly where the book has a dynamic strategy, and else is as before
-abbrev pub ListsReady : Plain → List ℤ → List ℤ → Readiness → Type 0
-ListsReady b before after Yes = Ready b after
-ListsReady b before after No = NoDynamic b × (after ≡ before)
 
 -- yes: the sheet holds the book and its earliest dynamic strategy; no: the book has no dynamic strategy, and the sheet is as before
 abbrev pub MakesReady : Plain → RunSheet → RunSheet → Readiness → Type 0

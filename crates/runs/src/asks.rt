@@ -20,20 +20,12 @@ fn sought(book: &Book, just: u32, heard: u8, c: u8) -> bool
     requires known { c < checks (held book.now) }
     ensures { Decides result (Sought (held book.now) just heard c) }
 {
-    match book.check_job(c) {
-        None => false,
-        Some(j) => has(just, j as u32) && !has(heard as u32, c as u32),
-    }
+    book.check_job(c).is_some_and(|job| has(just, job as u32) && !has(heard as u32, c as u32))
 }
 
 // The lowest check sought.
 pub(crate) fn lowest_sought(book: &Book, just: u32, heard: u8) -> Option<u8>
     ensures { LowestSought (held book.now) just heard result }
 {
-    for c in 0..book.checks() {
-        if sought(book, just, heard, c) {
-            return Some(c);
-        }
-    }
-    None
+    (0..book.checks()).find(|c| sought(book, just, heard, *c))
 }

@@ -1,33 +1,25 @@
 // Making a run sheet ready.
-ghost use Rattle.std.specs.Prelude.{◌≡◌, length, replicate, pos, IfOk};
+ghost use Rattle.std.specs.Prelude.{◌≡◌, IfOk, MatchOption};
 ghost use Rattle.book.specs.Held.{held};
 ghost use Rattle.book.specs.Plain.{new_book};
 ghost use Rattle.walks.specs.Ready.{Ready};
-ghost use Rattle.runs.specs.Sheets.{plan, ListsReady, MakesReady};
+ghost use Rattle.runs.specs.Sheets.{plan, NoDynamic, MakesReady};
 
 use crate::sheet::{Readiness, RunSheet};
 use book::keeping::Book;
 use std::alloc::{AllocError, Global};
 use verdicts::{DynamicAnswer, dynamic};
 
-// A list of minutes with 0 at every place.
-fn zeros() -> [i32; 320]
-    ensures { result ≡ replicate 320 (pos 0) }
+// The minutes of a book's earliest dynamic strategy, where it has one.
+fn earliest(book: &Book) -> Option<[i32; 320]>
+    ensures { MatchOption result (NoDynamic (held book.now)) (Ready (held book.now)) }
 {
-    [0; 320]
-}
-
-// Fills a list with the minutes of a book's earliest dynamic strategy, where it has one.
-fn fill(book: &Book, minutes: &mut [i32]) -> Readiness
-    requires room { length minutes.old ≡ 320 }
-    ensures { ListsReady (held book.now) minutes.old minutes.new result }
-{
-    match dynamic(book, minutes) {
-        Ok(answer) => match answer {
-            DynamicAnswer::Yes => Readiness::Yes,
-            DynamicAnswer::No => Readiness::No,
-        },
-        Err(_) => Readiness::No,
+    let mut minutes = [0; 320];
+    match dynamic(book, &mut minutes) {
+        Ok(DynamicAnswer::Yes) => Some(minutes),
+        Ok(DynamicAnswer::No) => None,
+        // 320 numbers are enough for every book
+        Err(_) => None,
     }
 }
 
@@ -39,7 +31,7 @@ impl RunSheet {
         let book = Book::new(heap)?;
         Ok(RunSheet {
             book,
-            minutes: zeros(),
+            minutes: [0; 320],
         })
     }
 
@@ -47,14 +39,13 @@ impl RunSheet {
     pub fn make_ready(&mut self, book: &Book) -> Readiness
         ensures { MakesReady (held book.now) self.old self.new result }
     {
-        let mut minutes = zeros();
-        match fill(book, &mut minutes) {
-            Readiness::Yes => {
+        match earliest(book) {
+            Some(minutes) => {
                 self.book.copy_from(book);
                 self.minutes = minutes;
                 Readiness::Yes
             }
-            Readiness::No => Readiness::No,
+            None => Readiness::No,
         }
     }
 }

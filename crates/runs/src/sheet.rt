@@ -17,7 +17,7 @@ pub struct RunSheet {
 }
 
 // What make ready answers.
-#[derive(Clone, Copy)]
+#[derive(Clone, Copy, PartialEq, Eq, Debug)]
 pub enum Readiness {
     Yes,
     No,

@@ -11,10 +11,10 @@ use Rattle.walks.proofs.Reports.{heard_in, in_heard}
 
 module _ (b : Plain) (log : List Event) where
   awaited : (c : ℕ) → Sought b (just_told log) (heard_set log) c → Awaited b log c
-  awaited c s = (s.0, s.1, λ h. s.2 (heard_in log c h))
+  awaited c s = (s.known, s.told, λ h. s.unheard (heard_in log c h))
 
   sought : (c : ℕ) → Awaited b log c → Sought b (just_told log) (heard_set log) c
-  sought c a = (a.0, a.1, λ h. a.2 (in_heard log c h))
+  sought c a = record { known = a.0; told = a.1; unheard = λ h. a.2 (in_heard log c h) }
 
   pub asked_for : (c : ℕ) → LowestSought b (just_told log) (heard_set log) (Some c) → Asked b log c
   asked_for c h = (awaited c h.0, λ d l a. h.1 d l (sought d a))

@@ -3,7 +3,9 @@ use Rattle.std.proofs.Common.{◌≡◌, ℕ, zero, suc, ◌+◌, ◌-◌, ◌*�
 use Rattle.std.proofs.Common.{take, drop, replicate, ℤ, pos, negsuc, Some, None, Option, sym, refl, ap, ◌∙◌, subst, inl, inr, suc-mul}
 use Rattle.std.proofs.Common.{zero-mul, arith, length-append, get_or-drop, get_or-take}
 use native.Mathlib.Decide.{dec_lt}
+use Rattle.std.specs.List.{Contains}
 use Rattle.std.proofs.lemmas.Nat.{mul-add-lt, mul-le}
+use Rattle.std.proofs.lemmas.List.Elements.{All-contains}
 use Rattle.std.proofs.lemmas.List.{get_or_append_left, get_or-append_right, take_at}
 use Rattle.book.specs.Labels.{bit}
 use Rattle.book.specs.Done.{done}
@@ -18,9 +20,10 @@ use Rattle.grades.proofs.Limits.{few_cases}
 use Rattle.walks.specs.declared.parts.Telling.{Telling}
 use Rattle.walks.specs.Logs.{Comes}
 use Rattle.walks.specs.Standing.{Begins, Over, First}
-use Rattle.walks.specs.Rows.{natural, Shows, FirstFrom}
+use Rattle.walks.specs.Rows.{natural, Shows, minutes_from, FirstFrom}
 use Rattle.walks.specs.Ready.{value, read, Ready}
 use Rattle.walks.proofs.Sets.{bit_of_none}
+use Rattle.walks.proofs.Scanned.{shown_in, in_shown}
 
 -- lists made number by number, and row by row
 each_length : {X : Type 0} (n k : ℕ) (f : ℕ → List X) → ((i : ℕ) → length (f i) ≡ k) → length (each_below n f) ≡ n * k
@@ -108,24 +111,35 @@ module _ (b : Plain) (M : Minutes) (list : List ℤ) (begins : take (cases b * l
         ap natural (in_row j c.0 ∙ ap (λ x. cond x (pos (M s j)) (negsuc 0)) t) ∙ ap Some c.2
 
     module _ (long : length row ≡ length b.jobs) (from : ℕ) where
+      -- the minute of a job of the case is among those of the row
+      among : (j : ℕ) → j < length b.jobs → Done b s j → from ≤ M s j → Contains (minutes_from row from) (M s j)
+      among j l d k = shown_in from row j (M s j) (subst (λ n. j < n) (sym long) l) (comes_shows j (M s j) (l, d, refl)) k
+
       -- the least minute of the row with its jobs is what comes first in the case
       begins_with : (t : Telling) → FirstFrom row from (Some t) → Begins b M s from t
       begins_with t f = record {
-        late = f.0.0;
+        late = (in_shown row from t.minute f.0.0).0;
         some = λ e.
-            let one = (f.1 f.0.1.0).1 (f.0.1.1, f.0.1.2) in
-            let x = ap (λ n. bit n f.0.1.0) e in
-            let z = bit_of_none f.0.1.0 in
+            let shown = (in_shown row from t.minute f.0.0).1 in
+            let one = (f.1 shown.0).1 (shown.1, shown.2) in
+            let x = ap (λ n. bit n shown.0) e in
+            let z = bit_of_none shown.0 in
             omega arith;
         exactly = λ j. (
           λ k. let x = (f.1 j).0 k in shows_comes j t.minute (subst (λ n. j < n) long x.0) x.1,
           λ c. (f.1 j).1 (subst (λ n. j < n) (sym long) c.0, comes_shows j t.minute c),
         );
-        least = λ j l d k. f.0.2 j (M s j) (subst (λ n. j < n) (sym long) l) (comes_shows j (M s j) (l, d, refl)) k;
+        least = λ j l d k. All-contains (λ v. t.minute ≤ v) (minutes_from row from) (M s j) f.0.1 (among j l d k);
       }
 
       over_with : FirstFrom row from None → Over b M s from
-      over_with f j l d = f j (M s j) (subst (λ n. j < n) (sym long) l) (comes_shows j (M s j) (l, d, refl))
+      over_with f j l d = by (dec_lt (M s j) from)
+        where
+          by : Dec (M s j < from) → M s j < from
+          by (yes p) = p
+          by (no p) =
+              let c = subst (λ vs. Contains vs (M s j)) f (among j l d (omega arith)) in
+              absurd (omega (arith, c.1))
 
       pub first_with : (r : Option Telling) → FirstFrom row from r → First b M s from r
       first_with None f = over_with f

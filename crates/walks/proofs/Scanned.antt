@@ -1,70 +1,64 @@
--- One job more of a row of minutes.
-use Rattle.std.proofs.Common.{◌≡◌, ℕ, ◌+◌, ◌*◌, ◌%◌, ◌^◌, ◌<◌, ◌≤◌, Bool, true, false, cond, ltb, leb, ◌⊎◌, List, get_or, ℤ, pos, Some}
-use Rattle.std.proofs.Common.{None, Option, sym, refl, ◌∙◌, subst, inl, inr, arith, ltb-false, ltb-true, leb-false, leb-true}
+-- The minutes of a row, and one job more of a row.
+use Rattle.std.proofs.Common.{◌≡◌, ℕ, zero, suc, ◌+◌, ◌*◌, ◌%◌, ◌^◌, ◌<◌, ◌≤◌, Bool, true, false, cond, List, [], ◌∷◌, length, ℤ, pos}
+use Rattle.std.proofs.Common.{Some, None, Option, nat_le, sym, refl, subst, arith, leb-true}
+use Rattle.std.proofs.lemmas.Bool.Decides.{nat_tests}
 use native.Mathlib.Decide.{ℕ_discrete}
+use Rattle.std.specs.List.{All, Contains, filter, filter_map, cons_option}
+use Rattle.std.proofs.lemmas.List.Elements.{All-nil, All-cons, All-weaker, All-filter, All-contains, Contains-append_right, filter_passes}
 use lib.Bits.{bit_or}
 use Rattle.std.proofs.lemmas.Nat.{one_shl}
 use Rattle.book.specs.Labels.{bit}
 use Rattle.book.proofs.Bits.{bit-bit_or}
 use Rattle.walks.specs.Logs.{Has}
 use Rattle.walks.proofs.Sets.{bit_same, bit_other}
-use Rattle.walks.specs.Rows.{natural, Shows, lesser_of, LeastBelow, JobsBelow}
+use Rattle.walks.specs.Rows.{natural, Shows, minutes_from, JobsBelow}
 
-some_is : (v w : ℕ) → ◌≡◌ {A = Option ℕ} (Some v) (Some w) → v ≡ w
-some_is v w e = cc
+-- what is kept of a list stays where something is put before it
+kept : (test : ℕ → Bool) (o : Option ℕ) (vs : List ℕ) (v : ℕ) → Contains (filter test vs) v → Contains (filter test (cons_option o vs)) v
+kept test None vs v h = h
+kept test (Some w) vs v h = by (test w)
+  where
+    by : (t : Bool) → Contains (cond t (w ∷ filter test vs) (filter test vs)) v
+    by true = Contains-append_right (w ∷ []) (filter test vs) v h
+    by false = h
 
-none_some : (w : ℕ) → ◌≡◌ {A = Option ℕ} None (Some w) → ⊥
-none_some w e = let z : ◌≡◌ {A = ℕ} 0 1 = cc in omega arith
+module _ (from : ℕ) where
+  -- a minute that a job of the row shows is among its minutes, where it is late enough
+  pub shown_in : (row : List ℤ) (j v : ℕ) → j < length row → Shows row j v → from ≤ v → Contains (minutes_from row from) v
+  shown_in [] j v l s k = absurd (omega arith)
+  shown_in (z ∷ row) zero v l s k =
+      let t : nat_le from v ≡ true = grind (arith, nat_tests) in
+      subst (λ o. Contains (filter (λ w. nat_le from w) (cons_option o (filter_map natural row))) v) (sym s)
+      (subst (λ b. Contains (cond b (v ∷ minutes_from row from) (minutes_from row from)) v) (sym t) (0, omega arith, refl))
+  shown_in (z ∷ row) (suc j) v l s k =
+      kept (λ w. nat_le from w) (natural z) (filter_map natural row) v (shown_in row j v (omega arith) s k)
 
-module _ (row : List ℤ) (from n : ℕ) where
-  -- a job among the first n + 1 is among the first n, or is job n
-  shown_by : (z : Option ℕ) → natural (get_or row n (pos 0)) ≡ z → (j v : ℕ) → j < n + 1 → Shows row j v → ((j < n) ⊎ (z ≡ Some v))
-  shown_by z e j v h s = by (ℕ_discrete j n)
-    where
-      by : Dec (j ≡ n) → (j < n) ⊎ (z ≡ Some v)
-      by (yes p) = inr (sym e ∙ subst (λ k. Shows row k v) p s)
-      by (no p) = inl (omega arith)
+-- minute m is shown by some job of the row
+abbrev Shown : List ℤ → ℕ → Type 0
+Shown row m = (j : ℕ) × (j < length row) × Shows row j m
 
-  pub least_more : (least z : Option ℕ) → natural (get_or row n (pos 0)) ≡ z → LeastBelow row from n least →
-      LeastBelow row from (n + 1) (lesser_of least z from)
-  least_more None None e h = λ j v l s. ⊎-case (shown_by None e j v l s) (λ k. h j v k s) (λ p. absurd (none_some v p))
-    where
-      ⊎-case : {A B C : Type 0} → A ⊎ B → (A → C) → (B → C) → C
-      ⊎-case (inl a) f g = f a
-      ⊎-case (inr b) f g = g b
-  least_more (Some m) None e h = (h.0, (h.1.0, omega (arith, h.1.1), h.1.2), λ j v l s k. by j v k s (shown_by None e j v l s))
-    where
-      by : (j v : ℕ) → from ≤ v → Shows row j v → (j < n) ⊎ (None ≡ Some v) → m ≤ v
-      by j v k s (inl p) = h.2 j v p s k
-      by j v k s (inr p) = absurd (none_some v p)
-  least_more None (Some w) e h = by (ltb w from) refl
-    where
-      before : w < from → (j v : ℕ) → Shows row j v → (j < n) ⊎ (Some w ≡ Some v) → v < from
-      before l j v s (inl p) = h j v p s
-      before l j v s (inr p) = let q = some_is w v p in omega arith
+shown_more : (z : ℤ) (row : List ℤ) (o : Option ℕ) → natural z ≡ o → All (Shown row) (filter_map natural row) →
+    All (Shown (z ∷ row)) (cons_option o (filter_map natural row))
+shown_more z row o e h = by o e
+  where
+    rest : All (Shown (z ∷ row)) (filter_map natural row)
+    rest = All-weaker (Shown row) (Shown (z ∷ row)) (λ m k. (suc k.0, omega (arith, k.1), k.2)) (filter_map natural row) h
 
-      first : (j v : ℕ) → Shows row j v → from ≤ v → (j < n) ⊎ (Some w ≡ Some v) → w ≤ v
-      first j v s k (inl p) = let q = h j v p s in absurd (omega arith)
-      first j v s k (inr p) = let q = some_is w v p in omega arith
+    by : (o : Option ℕ) → natural z ≡ o → All (Shown (z ∷ row)) (cons_option o (filter_map natural row))
+    by None e = rest
+    by (Some v) e = All-cons (Shown (z ∷ row)) v (filter_map natural row) (0, omega arith, e) rest
 
-      by : (t : Bool) → ltb w from ≡ t → LeastBelow row from (n + 1) (cond t None (Some w))
-      by true t = λ j v l s. before (ltb-true w from t) j v s (shown_by (Some w) e j v l s)
-      by false t = (ltb-false w from t, (n, omega arith, e), λ j v l s k. first j v s k (shown_by (Some w) e j v l s))
-  least_more (Some m) (Some w) e h = by (ltb w from) refl (leb m w) refl
-    where
-      same : (w < from) ⊎ (m ≤ w) → (j v : ℕ) → Shows row j v → from ≤ v → (j < n) ⊎ (Some w ≡ Some v) → m ≤ v
-      same d j v s k (inl p) = h.2 j v p s k
-      same (inl d) j v s k (inr p) = let q = some_is w v p in absurd (omega arith)
-      same (inr d) j v s k (inr p) = let q = some_is w v p in omega arith
+each_shown : (row : List ℤ) → All (Shown row) (filter_map natural row)
+each_shown [] = All-nil (Shown [])
+each_shown (z ∷ row) = shown_more z row (natural z) refl (each_shown row)
 
-      less : w < m → (j v : ℕ) → Shows row j v → from ≤ v → (j < n) ⊎ (Some w ≡ Some v) → w ≤ v
-      less d j v s k (inl p) = let q = h.2 j v p s k in omega arith
-      less d j v s k (inr p) = let q = some_is w v p in omega arith
-
-      by : (t : Bool) → ltb w from ≡ t → (u : Bool) → leb m w ≡ u → LeastBelow row from (n + 1) (cond t (Some m) (cond u (Some m) (Some w)))
-      by true t u x = (h.0, (h.1.0, omega (arith, h.1.1), h.1.2), λ j v l s k. same (inl (ltb-true w from t)) j v s k (shown_by (Some w) e j v l s))
-      by false t true x = (h.0, (h.1.0, omega (arith, h.1.1), h.1.2), λ j v l s k. same (inr (leb-true m w x)) j v s k (shown_by (Some w) e j v l s))
-      by false t false x = (ltb-false w from t, (n, omega arith, e), λ j v l s k. less (leb-false m w x) j v s k (shown_by (Some w) e j v l s))
+-- a minute among those of a row is late enough, and is shown by one of its jobs
+pub in_shown : (row : List ℤ) (from m : ℕ) → Contains (minutes_from row from) m →
+    (from ≤ m) × ((j : ℕ) × (j < length row) × Shows row j m)
+in_shown row from m h =
+    let late = All-contains (λ v. nat_le from v ≡ true) (minutes_from row from) m (filter_passes (λ v. nat_le from v) (filter_map natural row)) h in
+    let shown = All-filter (λ v. nat_le from v) (Shown row) (filter_map natural row) (each_shown row) in
+    (leb-true from m late, All-contains (Shown row) (minutes_from row from) m shown h)
 
 module _ (row : List ℤ) (minute n jobs : ℕ) (h : JobsBelow row minute n jobs) where
   -- job n is due, and joins the set
