@@ -17,7 +17,7 @@ use Rattle.walks.specs.Sought.{LowestSought}
 use Rattle.walks.proofs.Asks.{asked_for, none_asked}
 use Rattle.walks.proofs.Laws.{lawful_keep_law, ended_are_whole}
 use Rattle.walks.proofs.Reports.{yes_case}
-use Rattle.walks.proofs.Recording.{length_newest}
+use Rattle.std.proofs.lemmas.List.{length-reverse}
 use Rattle.walks.proofs.Readied.{row_fits, first_with}
 use Rattle.walks.proofs.Single.{lawful_single, idle_single, asked_single, ended_single}
 use Rattle.walks.proofs.Steps.{tells, ends, few_events, last_of}
@@ -48,11 +48,7 @@ first_in sheet jobs case e h from r f =
 
 -- a log has few events
 pub short : (log : Log) → length (recorded log) ≤ 24
-short log =
-    let f = log.few in
-    let z = log.sized in
-    let l = length_newest log.places log.count (omega arith) in
-    omega arith
+short log = let f = log.few in simp length-reverse f
 
 module _ (sheet : RunSheet) (log : Log) where
   -- the check to be asked for, by the sets that the log keeps

@@ -4,6 +4,7 @@ ghost use Rattle.walks.specs.declared.parts.Event.TheVariants.{Told, Reported};
 ghost use Rattle.runs.specs.Recorded.{recorded};
 
 use crate::log::Log;
+use arrayvec::ArrayVec;
 use walks::parts::{Event, Report, Telling};
 
 impl Log {
@@ -12,8 +13,7 @@ impl Log {
         ensures { recorded result ≡ [] }
     {
         Log {
-            places: [Event::Told(Telling { minute: 0, jobs: 0 }); 24],
-            count: 0,
+            events: ArrayVec::new(),
             heard: 0,
             yes: 0,
             just: 0,
@@ -27,11 +27,10 @@ impl Log {
         requires room { length (recorded self.old) < 24 }
         ensures { recorded self.new ≡ Told telling ∷ recorded self.old }
     {
-        self.places[self.count] = Event::Told(telling);
-        self.count += 1;
+        self.events.push(Event::Told(telling));
         self.just = telling.jobs;
-        self.told = telling.jobs | self.told;
-        self.time = telling.minute as u64 + 1;
+        self.told |= telling.jobs;
+        self.time = u64::from(telling.minute) + 1;
     }
 
     // One report more.
@@ -41,17 +40,17 @@ impl Log {
         ensures { recorded self.new ≡ Reported report ∷ recorded self.old }
     {
         let bit = 1u8 << report.check;
-        let mark = if report.yes { bit } else { 0 };
-        self.places[self.count] = Event::Reported(report);
-        self.count += 1;
-        self.heard = self.heard | bit;
-        self.yes = self.yes | mark;
+        self.events.push(Event::Reported(report));
+        self.heard |= bit;
+        if report.yes {
+            self.yes |= bit;
+        }
     }
 
     // The events in the order in which they came.
     pub fn events(&self) -> &[Event]
         ensures { reverse result.now ≡ recorded self.now }
     {
-        &self.places[..self.count]
+        self.events.as_slice()
     }
 }

@@ -30,8 +30,8 @@ told_dec (Told t ∷ log) j v = by (ℕ_discrete (bit t.jobs j) 1) (ℕ_discrete
 pub all_in : (log : List Event) (j v : ℕ) → ToldAt log j v → Has (all_told log) j
 all_in [] j v h = absurd h
 all_in (Reported r ∷ log) j v h = all_in log j v h
-all_in (Told t ∷ log) j v (inl p) = let o = bit-bit_or t.jobs (all_told log) j in let e = p.0 in omega arith
-all_in (Told t ∷ log) j v (inr p) = let o = bit-bit_or t.jobs (all_told log) j in let e = all_in log j v p in omega arith
+all_in (Told t ∷ log) j v (inl p) = let o = bit-bit_or (all_told log) t.jobs j in let e = p.0 in omega arith
+all_in (Told t ∷ log) j v (inr p) = let o = bit-bit_or (all_told log) t.jobs j in let e = all_in log j v p in omega arith
 
 pub in_all : (log : List Event) (j : ℕ) → Has (all_told log) j → (v : ℕ) × ToldAt log j v
 in_all [] j h = absurd (omega (arith, bit_of_none j))
@@ -41,7 +41,7 @@ in_all (Told t ∷ log) j h = by (ℕ_discrete (bit t.jobs j) 1) (in_all log j)
     by : Dec (Has t.jobs j) → (Has (all_told log) j → (v : ℕ) × ToldAt log j v) → (v : ℕ) × ((Has t.jobs j × (t.minute ≡ v)) ⊎ ToldAt log j v)
     by (yes e) f = (t.minute, inl (e, refl))
     by (no n) f =
-        let o = bit-bit_or t.jobs (all_told log) j in
+        let o = bit-bit_or (all_told log) t.jobs j in
         let z : bit t.jobs j ≡ 0 = grind arith in
         let r = f (omega arith) in
         (r.0, inr r.1)

@@ -4,7 +4,6 @@ pub mod Exact
 pub mod Laws
 pub mod Steps
 pub mod Single
-pub mod Recording
 pub mod Scanned
 pub mod Asks
 pub mod Readied

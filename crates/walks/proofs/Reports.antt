@@ -47,16 +47,13 @@ in_heard (Reported r ∷ log) c e = by (ℕ_discrete c r.check) (in_heard log c)
 yes_heard : (log : List Event) (c : ℕ) → bit (yes_set log) c ≡ 1 → Heard log c
 yes_heard [] c e = absurd (omega (arith, bit_of_none c))
 yes_heard (Told t ∷ log) c e = yes_heard log c e
-yes_heard (Reported r ∷ log) c e = by (ℕ_discrete c r.check) (yes_heard log c)
+yes_heard (Reported r ∷ log) c e = by r.yes (ℕ_discrete c r.check) e (yes_heard log c)
   where
-    off : (y : Bool) → c ≢ r.check → bit (cond y (2 ^ r.check) 0) c ≡ 0
-    off true n = bit_other r.check c n
-    off false n = bit_of_none c
-
-    by : Dec (c ≡ r.check) → (bit (yes_set log) c ≡ 1 → Heard log c) → (r.check ≡ c) ⊎ Heard log c
-    by (yes p) f = inl (sym p)
-    by (no n) f =
-        inr (f (let o = bit-bit_or (yes_set log) (cond r.yes (2 ^ r.check) 0) c in let z = off r.yes n in omega arith))
+    by : (y : Bool) → Dec (c ≡ r.check) → bit (cond y (bit_or (yes_set log) (2 ^ r.check)) (yes_set log)) c ≡ 1 →
+        (bit (yes_set log) c ≡ 1 → Heard log c) → (r.check ≡ c) ⊎ Heard log c
+    by y (yes p) e f = inl (sym p)
+    by true (no n) e f = inr (f (let o = bit-bit_or (yes_set log) (2 ^ r.check) c in let z = bit_other r.check c n in omega arith))
+    by false (no n) e f = inr (f e)
 
 -- cases that say the same of the checks reported agree alike
 pub agrees_like : (log : List Event) (s t : ℕ) → ((c : ℕ) → Heard log c → bit s c ≡ bit t c) → Agrees log s → Agrees log t
@@ -87,29 +84,25 @@ module _ (b : Plain) (minute : Minutes) where
           by (yes e) = absurd (l.1.0.2 (yes_heard log r.check e))
           by (no n) = grind arith
 
-      here : (y : Bool) → bit (bit_or (yes_set log) (cond y (2 ^ r.check) 0)) r.check ≡ cond y 1 0
+      here : (y : Bool) → bit (cond y (bit_or (yes_set log) (2 ^ r.check)) (yes_set log)) r.check ≡ cond y 1 0
       here true = let o = bit-bit_or (yes_set log) (2 ^ r.check) r.check in let p = bit_same r.check in omega arith
-      here false = let o = bit-bit_or (yes_set log) 0 r.check in let p = bit_of_none r.check in let f = fresh in omega arith
+      here false = fresh
 
-      other : (y : Bool) (c : ℕ) → c ≢ r.check → bit (cond y (2 ^ r.check) 0) c ≡ 0
-      other true c n = bit_other r.check c n
-      other false c n = bit_of_none c
+      other : (y : Bool) (c : ℕ) → c ≢ r.check → bit (yes_set log) c ≡ bit (cond y (bit_or (yes_set log) (2 ^ r.check)) (yes_set log)) c
+      other true c n = let o = bit-bit_or (yes_set log) (2 ^ r.check) c in let z = bit_other r.check c n in omega arith
+      other false c n = refl
 
-      same : (c : ℕ) → Heard log c → bit (yes_set log) c ≡ bit (bit_or (yes_set log) (cond r.yes (2 ^ r.check) 0)) c
-      same c h =
-          let n : c ≢ r.check = λ e. l.1.0.2 (subst (λ d. Heard log d) e h) in
-          let o = bit-bit_or (yes_set log) (cond r.yes (2 ^ r.check) 0) c in
-          let z = other r.yes c n in
-          omega arith
+      same : (c : ℕ) → Heard log c → bit (yes_set log) c ≡ bit (cond r.yes (bit_or (yes_set log) (2 ^ r.check)) (yes_set log)) c
+      same c h = other r.yes c (λ e. l.1.0.2 (subst (λ d. Heard log d) e h))
 
   pub yes_case : (log : List Event) → Lawful b minute log → Case b (yes_set log)
   yes_case [] l = pow_pos (checks b)
   yes_case (Told t ∷ log) l = yes_case log l.0
-  yes_case (Reported r ∷ log) l = or_lt (checks b) (yes_set log) _ (yes_case log l.0) (small r.yes)
+  yes_case (Reported r ∷ log) l = by r.yes (yes_case log l.0)
     where
-      small : (y : Bool) → cond y (2 ^ r.check) 0 < 2 ^ checks b
-      small true = pow_below r.check (checks b) l.1.0.0
-      small false = pow_pos (checks b)
+      by : (y : Bool) → Case b (yes_set log) → Case b (cond y (bit_or (yes_set log) (2 ^ r.check)) (yes_set log))
+      by true h = or_lt (checks b) (yes_set log) (2 ^ r.check) h (pow_below r.check (checks b) l.1.0.0)
+      by false h = h
 
   pub yes_agreeing : (log : List Event) → Lawful b minute log → Agreeing b log (yes_set log)
   yes_agreeing log l = (yes_case log l, yes_agrees log l)

@@ -118,10 +118,10 @@ module _ (b : Plain) (minute : Minutes) where
       let one = some_bit t.jobs l.1.1.some in
       let left = ((l.1.1.exactly (yes_set log) (yes_agreeing b minute log l.0) one.0).0 one.1).0 in
       let fresh : bit (all_told log) one.0 < 1 = clear one.0 left (ℕ_discrete (bit (all_told log) one.0) 1) in
-      let o = bit-bit_or t.jobs (all_told log) one.0 in
+      let o = bit-bit_or (all_told log) t.jobs one.0 in
       let e = one.1 in
-      let more : (k : ℕ) → bit (all_told log) k ≤ bit (bit_or t.jobs (all_told log)) k = λ k. let p = bit-bit_or t.jobs (all_told log) k in omega arith in
-      let g = size_grows (length b.jobs) (all_told log) (bit_or t.jobs (all_told log)) more one.0 left.0 (omega arith) in
+      let more : (k : ℕ) → bit (all_told log) k ≤ bit (bit_or (all_told log) t.jobs) k = λ k. let p = bit-bit_or (all_told log) t.jobs k in omega arith in
+      let g = size_grows (length b.jobs) (all_told log) (bit_or (all_told log) t.jobs) more one.0 left.0 (omega arith) in
       omega arith
     where
       clear : (j : ℕ) → Left b log (yes_set log) j → Dec (bit (all_told log) j ≡ 1) → bit (all_told log) j < 1

@@ -2,6 +2,5 @@ pub mod Logs
 pub mod Law
 pub mod Standing
 pub mod Sought
-pub mod Newest
 pub mod Rows
 pub mod Ready

@@ -52,7 +52,7 @@ UpTo (Some m) v = v ≤ m
 -- the set of all jobs told
 abbrev pub all_told : List Event → ℕ
 all_told [] = 0
-all_told (Told t ∷ log) = bit_or t.jobs (all_told log)
+all_told (Told t ∷ log) = bit_or (all_told log) t.jobs
 all_told (Reported r ∷ log) = all_told log
 
 -- job j is done in case s, at minute v

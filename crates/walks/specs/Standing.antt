@@ -16,7 +16,7 @@ heard_set (Reported r ∷ log) = bit_or (heard_set log) (2 ^ r.check)
 abbrev pub yes_set : List Event → ℕ
 yes_set [] = 0
 yes_set (Told t ∷ log) = yes_set log
-yes_set (Reported r ∷ log) = bit_or (yes_set log) (cond r.yes (2 ^ r.check) 0)
+yes_set (Reported r ∷ log) = cond r.yes (bit_or (yes_set log) (2 ^ r.check)) (yes_set log)
 
 -- the minute after the last one told
 abbrev pub time : List Event → ℕ

@@ -1,4 +1,4 @@
-use Rattle.std.proofs.Common.{◌≡◌, ℕ, ◌<◌, ◌≤◌, MatchOption, Some, None, Option, refl, rules, arith}
+use Rattle.std.proofs.Common.{◌≡◌, ℕ, ◌<◌, Some, None, Option, refl, arith}
 use Rattle.std.proofs.iter.runs.Sources.{ranges}
 use Rattle.book.specs.Held.{held}
 use Rattle.book.specs.Plain.{Plain, checks}
