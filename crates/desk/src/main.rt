@@ -5,7 +5,7 @@ use account::reply_line;
 use anyhow::anyhow;
 use book::parts::{Bound, Call, Kind, Label};
 use find::{Found, Refusal};
-use listed::Listed;
+use listed::listed;
 use promise::outcome::{Outcome, Run};
 use promise::parts::{Reply, Request};
 use promise::whole::plan_and_run;
@@ -148,7 +148,7 @@ fn run(rt: &HostRuntime) -> anyhow::Result<()> {
             minutes: 5,
         }; 5],
     }];
-    let Some(system) = Listed::new(2, &rows) else {
+    let Some(system) = listed(2, &rows) else {
         return Err(anyhow!("the rows are no rule system"));
     };
     let outcome = plan_and_run(

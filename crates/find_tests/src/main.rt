@@ -2,7 +2,7 @@
 #![tactic(auto)]
 
 use find::{Explained, Found, Refusal, find, find_or_loop};
-use listed::Listed;
+use listed::{Listed, listed};
 use rules::parts::Origin;
 use rules::rows::{Row, Step};
 use rules::system::{RuleSystem, WithOrigins};
@@ -70,7 +70,7 @@ fn explain(rt: HostRuntime, system: &Listed) -> io::Result<()> {
 // Both, of the rule system of these rows.
 fn both(rt: HostRuntime, name: &str, places: usize, rows: &[Row]) -> io::Result<()> {
     println!(rt; "{}", name)?;
-    match Listed::new(places, rows) {
+    match listed(places, rows) {
         None => println!(rt; "  not sound"),
         Some(system) => {
             show(rt, &system, places)?;
@@ -178,7 +178,7 @@ fn refused(r: Result<Explained, Refusal>) -> u8 {
 
 // Lists that are too short, and questions past the end.
 fn ends(rt: HostRuntime) -> io::Result<()> {
-    let Some(system) = Listed::new(2, &[one(1, 0, 30)]) else {
+    let Some(system) = listed(2, &[one(1, 0, 30)]) else {
         return println!(rt; "not sound");
     };
     let mut minutes = [7i32; 1];

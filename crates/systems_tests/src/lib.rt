@@ -8,7 +8,7 @@ mod tests {
     use rules::parts::Origin;
     use rules::system::{RuleSystem, WithOrigins};
     use std::test::Fail;
-    use systems::kept::{Dynamic, Strong, Weak};
+    use systems::{dynamic_system, strong_system, weak_system};
 
     // Puts a bound into the book.
     fn bind(book: &mut Book, kind: Kind, first: usize, second: usize, minutes: i32) -> bool {
@@ -114,7 +114,7 @@ mod tests {
     fn strong_rules(rt: HostRuntime) -> Result<(), Fail> {
         let mut book = Book::new(rt.alloc())?;
         assert!(rt; set_down(&mut book));
-        let system = Strong::new(&book);
+        let system = strong_system(&book);
         let rules = [
             rule(1, 0, 60),
             rule(2, 1, 5),
@@ -140,7 +140,7 @@ mod tests {
     fn weak_rules(rt: HostRuntime) -> Result<(), Fail> {
         let mut book = Book::new(rt.alloc())?;
         assert!(rt; set_down(&mut book));
-        let system = Weak::new(&book, 0);
+        let system = weak_system(&book, 0);
         let rules = [
             rule(1, 0, 60),
             rule(1, 4, -20),
@@ -162,7 +162,7 @@ mod tests {
     fn dynamic_rules(rt: HostRuntime) -> Result<(), Fail> {
         let mut book = Book::new(rt.alloc())?;
         assert!(rt; set_down(&mut book));
-        let system = Dynamic::new(&book);
+        let system = dynamic_system(&book);
         let rules = [
             rule(1, 0, 60),
             rule(1, 4, -20),

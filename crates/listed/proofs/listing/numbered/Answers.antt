@@ -17,7 +17,7 @@ loop-number-preserved c =
     let more = one_more rows i blank c.loop-number-test.true in
     let next = with_numbers 0 (take (i + 1) rows) in
     let few : length next ≤ 8192 = omega (arith, numbers_long 0 (take (i + 1) rows), length-take (i + 1) rows) in
-    c.push.ensures ∙ (ap (λ xs. take 8192 (xs ++ record { row = get_or rows i blank; number = i } ∷ [])) c.loop-number.invariant
+    c.push.ensures.cut ∙ (ap (λ xs. take 8192 (xs ++ record { row = get_or rows i blank; number = i } ∷ [])) c.loop-number.invariant
     ∙ (ap (take 8192) (sym more) ∙ take_all 8192 next few))
 
 pub returns : goal.returns
