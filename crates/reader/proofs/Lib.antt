@@ -8,3 +8,5 @@ mod Jobs
 mod Bounds
 mod Spelling
 pub mod Entered
+mod Known
+mod Taken

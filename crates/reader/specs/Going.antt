@@ -1,9 +1,11 @@
 -- A reader's way through a text.
-use Rattle.std.specs.Prelude.{◌≡◌, ℕ, ◌+◌, ◌<◌, ◌≤◌, Bool, false, List, ◌∷◌, length, drop, Err, Result, ◌==◌}
+use Rattle.std.specs.Prelude.{◌≡◌, ℕ, zero, suc, ◌+◌, ◌-◌, ◌<◌, ◌≤◌, Bool, true, false, List, [], ◌∷◌, ◌++◌, length, drop, Ok, Err, codes, Result, ◌==◌, slice_set}
 use Rattle.book.specs.Plain.{Plain}
+use Rattle.format.specs.declared.parts.FileFault.TheVariants.{Trailing}
 use Rattle.format.specs.declared.parts.Fault.{Fault}
 use Rattle.format.specs.declared.parts.NamePlace.{NamePlace}
-use Rattle.format.specs.Faults.{cut, line_in, Rest, Reading, from_top, from_jobs, from_bounds}
+use Rattle.format.specs.Faults.{fault, then, cut, line_in, line_name, job_names, count_of, jobs_count, job_of, bound_of}
+use Rattle.format.specs.Faults.{Rest, Reading, with_job_line, with_bound_line, from_top, from_jobs, from_bounds}
 use Rattle.reader.specs.declared.section.Section.{Section}
 use Rattle.reader.specs.declared.section.Section.TheVariants.{Top, Jobs, Bounds}
 use Rattle.reader.specs.declared.state.Reader.{Reader}
@@ -20,30 +22,59 @@ going room Top s p = from_top room s p
 going room (Jobs k) s p = from_jobs k s p
 going room (Bounds k) s p = from_bounds k s p
 
+-- the section after a line, and what has been read then
+pub record Reached : Type 0 where
+  pub section : Section
+  pub reading : Reading
+
+abbrev pub reached : Section → Reading → Reached
+reached x s = record { section = x; reading = s }
+
+-- what a line's words give, by the section reached
+abbrev pub heard : ℕ → Section → Reading → ℕ → ℕ → List (List ℕ) → Result Reached Fault
+heard room Top s l b ws = then (jobs_count room l b ws) (λ n. Ok (reached (Jobs n) s))
+heard room (Jobs zero) s l b ws = then (count_of (codes "bounds") l b ws) (λ n. Ok (reached (Bounds n) s))
+heard room (Jobs (suc k)) s l b ws = then (job_of s.known s.book l b ws) (λ j. Ok (reached (Jobs k) (with_job_line s j)))
+heard room (Bounds zero) s l b ws = fault Trailing l b
+heard room (Bounds (suc k)) s l b ws = then (bound_of s.known s.book l b ws) (λ x. Ok (reached (Bounds k) (with_bound_line s x)))
+
 -- the name list has room for the jobs that are due
 abbrev pub Due : ℕ → Section → ℕ → Type 0
 Due room Top jobs = jobs ≤ 1
 Due room (Jobs k) jobs = jobs + k ≤ room + 1
 Due room (Bounds k) jobs = Unit {0}
 
--- a line is due
-abbrev pub Open : Section → Type 0
-Open Top = Unit {0}
-Open (Jobs k) = Unit {0}
-Open (Bounds k) = 0 < k
+-- the last line due has been read
+abbrev pub finished : Section → Bool
+finished Top = false
+finished (Jobs k) = false
+finished (Bounds k) = k == 0
 
 -- what has been read is what the book and the name list hold
 pub record Holds (text : List ℕ) (ns : List NamePlace) (o : Plain) (s : Reading) : Type 0 where
   pub known : s.known ≡ known_by text ns o
   pub book : s.book ≡ o
 
--- a reader has gone on past a line
-pub record Went (r : Reader) (ns : List NamePlace) (o : Plain) (r' : Reader) (ns' : List NamePlace) (o' : Plain) : Type 0 where
-  pub text : r'.text ≡ r.text
-  pub onward : r.at < r'.at
-  pub room : length ns' ≡ length ns
-  pub stands : Stands r.text.now ns' o'
-  pub due : Due (length ns) r'.section (length o'.jobs)
+-- the name list after a line: its own name, if it has one, behind n others
+abbrev pub note : List NamePlace → ℕ → List NamePlace → List NamePlace
+note ns n [] = ns
+note ns n (p ∷ ps) = slice_set ns n p
+
+-- a line is taken in a section: from line l and byte b, with these words
+module _ (text : List ℕ) (l b : ℕ) (ws : List (List ℕ)) (x : Section) (ns : List NamePlace) (o : Plain) where
+  pub record Taken (x' : Section) (ns' : List NamePlace) (o' : Plain) : Type 0 where
+    pub room : length ns' ≡ length ns
+    pub stands : Stands text ns' o'
+    pub due : Due (length ns) x' (length o'.jobs)
+    pub noted : ns' ≡ note ns (length o.jobs - 1) (line_name b ws)
+    pub more : length o'.jobs ≡ length o.jobs + length (line_name b ws)
+    pub says : (s : Reading) → Holds text ns o s → (s' : Reading) × Holds text ns' o' s' × (heard (length ns) x s l b ws ≡ Ok (reached x' s'))
+
+  -- or it has a fault, and nothing is altered
+  pub record Faulty (e : Fault) (ns' : List NamePlace) (o' : Plain) : Type 0 where
+    pub book : o' ≡ o
+    pub noted : ns' ≡ ns
+    pub says : (s : Reading) → Holds text ns o s → heard (length ns) x s l b ws ≡ Err e
 
 -- the next line has its line feed, and the reader has moved past it
 pub record LineThere (r r' : Reader) (bytes : List ℕ) (number byte : ℕ) : Type 0 where
@@ -57,9 +88,3 @@ pub record LineThere (r r' : Reader) (bytes : List ℕ) (number byte : ℕ) : Ty
 -- it has none
 pub record NoLine (r : Reader) (e : Fault) : Type 0 where
   pub says : line_in r.line r.at (cut 10 (drop r.at r.text.now)) ≡ Err e
-
--- the last line due has been read
-abbrev pub finished : Section → Bool
-finished Top = false
-finished (Jobs k) = false
-finished (Bounds k) = k == 0

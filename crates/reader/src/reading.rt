@@ -1,15 +1,18 @@
 // Reads a text line by line.
-ghost use Rattle.std.specs.Prelude.{◌≡◌, length, MatchResult, OnErr};
+ghost use Rattle.std.specs.Prelude.{◌≡◌, false, length, MatchResult, OnErr};
 ghost use Rattle.book.specs.Held.{held};
 ghost use Rattle.book.specs.Plain.{new_book};
 ghost use Rattle.reader.specs.Names.{Stands};
-ghost use Rattle.reader.specs.Going.{Due, Went, LineThere, NoLine, finished};
+ghost use Rattle.format.specs.Faults.{cut};
+ghost use Rattle.reader.specs.Entering.{Lies};
+ghost use Rattle.reader.specs.Words.{step_of, moved};
+ghost use Rattle.reader.specs.Going.{Due, Taken, Faulty, LineThere, NoLine, finished};
 
 use crate::entries::{bound, job};
 use crate::lines::count;
 use crate::place::{Line, Unread, fault};
 use crate::scan::piece_end;
-use crate::section::{Section, Word, key};
+use crate::section::{Section, Step, Word, key};
 use crate::state::Reader;
 use book::keeping::Book;
 use book::parts::Kind;
@@ -41,50 +44,69 @@ impl<'a> Reader<'a> {
         })
     }
 
-    // Enters what the next line says, or alters nothing but the place in the text.
-    fn enter(&mut self, book: &mut Book, names: &mut [NamePlace]) -> Result<(), Fault>
+    // What a line does, by the section reached and the line's first word; the section moves on past a line that it counts.
+    fn step(&mut self, word: Word) -> Step
+        ensures step { result ≡ step_of self.old.section word }
+        ensures moved { self.new.section ≡ moved self.old.section result }
+        ensures text { self.new.text ≡ self.old.text }
+        ensures at { self.new.at ≡ self.old.at }
+        ensures line { self.new.line ≡ self.old.line }
+    {
+        match (self.section, word) {
+            (Section::Top, Word::Jobs) => Step::CountJobs,
+            (Section::Jobs(k), Word::Entry(work)) if k > 0 => {
+                self.section = Section::Jobs(k - 1);
+                Step::Enter(work)
+            }
+            (Section::Jobs(k), Word::Bounds) if k == 0 => Step::CountBounds,
+            (Section::Bounds(k), Word::Bound(kind)) if k > 0 => {
+                self.section = Section::Bounds(k - 1);
+                Step::Tie(kind)
+            }
+            _ => Step::Wrong,
+        }
+    }
+
+    // Enters what a line says, or alters nothing but the section reached.
+    fn take(
+        &mut self,
+        line: Line<'a>,
+        book: &mut Book,
+        names: &mut [NamePlace],
+    ) -> Result<(), Fault>
+        requires lies { Lies self.old.text.now line.bytes.now line.byte }
         requires stands { Stands self.old.text.now names.old (held book.old) }
         requires due { Due (length names.old) self.old.section (length (held book.old).jobs) }
+        requires open { finished self.old.section ≡ false }
         ensures cases { MatchResult result
-            (λ _. Went self.old names.old (held book.old) self.new names.new (held book.new))
-            (λ _. Unit {0}) }
+            (λ _. Taken self.old.text.now line.entry.number line.entry.byte (cut 32 line.entry.bytes.now) self.old.section
+            names.old (held book.old) self.new.section names.new (held book.new))
+            (λ e. Faulty self.old.text.now line.entry.number line.entry.byte (cut 32 line.entry.bytes.now) self.old.section
+            names.old (held book.old) e names.new (held book.new)) }
+        ensures text { self.new.text ≡ self.old.text }
+        ensures at { self.new.at ≡ self.old.at }
+        ensures line { self.new.line ≡ self.old.line }
     {
         let text = self.text;
-        let line = self.line()?;
         let first = piece_end(line.bytes, 0, b' ');
-        match (self.section, key(&line.bytes[0..first])) {
-            (Section::Top, Word::Jobs) => {
+        match self.step(key(&line.bytes[0..first])) {
+            Step::CountJobs => {
                 let n = count(line, first)?;
                 if n > names.len() {
                     return Err(fault(FileFault::NamesShort, line.number, line.byte));
                 }
                 self.section = Section::Jobs(n);
+                Ok(())
             }
-            (Section::Jobs(k), Word::Job) if k > 0 => {
-                job(text, line, first, Work::Job, book, names)?;
-                self.section = Section::Jobs(k - 1);
-            }
-            (Section::Jobs(k), Word::Check) if k > 0 => {
-                job(text, line, first, Work::Check, book, names)?;
-                self.section = Section::Jobs(k - 1);
-            }
-            (Section::Jobs(k), Word::Bounds) if k == 0 => {
+            Step::Enter(work) => job(text, line, first, work, book, names),
+            Step::CountBounds => {
                 let n = count(line, first)?;
                 self.section = Section::Bounds(n);
+                Ok(())
             }
-            (Section::Bounds(k), Word::Least) if k > 0 => {
-                bound(text, line, first, Kind::Least, book, names)?;
-                self.section = Section::Bounds(k - 1);
-            }
-            (Section::Bounds(k), Word::Most) if k > 0 => {
-                bound(text, line, first, Kind::Most, book, names)?;
-                self.section = Section::Bounds(k - 1);
-            }
-            _ => {
-                return Err(fault(FileFault::WrongLine, line.number, line.byte));
-            }
+            Step::Tie(kind) => bound(text, line, first, kind, book, names),
+            Step::Wrong => Err(fault(FileFault::WrongLine, line.number, line.byte)),
         }
-        Ok(())
     }
 
     // Whether the last line due has been read.
@@ -103,7 +125,8 @@ impl<'a> Reader<'a> {
         requires due { Due (length names.old) self.old.section (length (held book.old).jobs) }
     {
         while !self.done() {
-            self.enter(book, names)?;
+            let line = self.line()?;
+            self.take(line, book, names)?;
         }
         if self.at < self.text.len() {
             return Err(fault(FileFault::Trailing, self.line, self.at));
