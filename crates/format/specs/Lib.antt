@@ -3,3 +3,6 @@ pub mod Entered
 pub mod Faults
 pub mod Theorems
 pub mod Example
+pub mod Messages
+pub mod Names
+pub mod Named
