@@ -1,4 +1,5 @@
-// The holds of a book, collected in their order.
+// The holds of a book, collected in their order: one function for each kind of hold takes the book and the table; a struct of these two
+// would only rename them.
 ghost use Rattle.std.specs.Prelude.{◌≡◌, ◌<◌, pos, neg_ℤ, ◌≤ℤ◌};
 ghost use Rattle.book.specs.Plain.{asking, job};
 ghost use Rattle.book.specs.Held.{held};

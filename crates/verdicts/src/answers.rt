@@ -1,4 +1,5 @@
-// What a verdict answers.
+// What a verdict answers. A no is an answer and no failure, so each is an enum with names that speak, a rule of the project:
+// a yes as `Ok(None)` would say nothing.
 
 // On a no, so many rules are a loop.
 #[derive(Clone, Copy)]

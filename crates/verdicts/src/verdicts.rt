@@ -1,4 +1,5 @@
-// The verdicts.
+// The verdicts. The book and the caller's lists stay parameters side by side: the lists are filled in part, a rule of the project, and
+// a struct that holds a `&mut` to one can keep no fact about it in its type.
 ghost use Rattle.std.specs.Prelude.{◌≡◌, ◌≤◌, length};
 ghost use Rattle.book.specs.Held.{held};
 ghost use Rattle.verdicts.specs.Filling.{StrongEnds, DynamicEnds};
