@@ -1,5 +1,6 @@
 // The two lists of a book: what is asked of them, and how they change.
-ghost use Rattle.std.specs.Prelude.{◌≡◌, ◌&&◌, [], ◌∷◌, None, Some, MatchResult, nat_le, unsigned_abs};
+ghost use Rattle.std.specs.Prelude.{◌≡◌, ◌&&◌, [], ◌∷◌, nat_le, unsigned_abs};
+ghost use Rattle.std.specs.Result.{result_err};
 ghost use Rattle.book.specs.Labels.{names};
 ghost use Rattle.book.specs.Plain.{plain, checks, asking, job, lacks, part_missing, row, first_row};
 ghost use Rattle.book.specs.Plain.{names_unknown, both_ways};
@@ -17,7 +18,7 @@ use crate::parts::{Bound, Job, Label, Refusal, Table};
 fn beyond(minutes: i32) -> bool
     ensures { result ≡ nat_le 4321 (unsigned_abs minutes) }
 {
-    minutes < -4320 || minutes > 4320
+    minutes.unsigned_abs() > 4320
 }
 
 // A rule of the project keeps what is well formed in the type over the plain struct: Book holds that its table is sound and has
@@ -75,12 +76,12 @@ impl Table {
     // Refuses the label of a new job that is not taken.
     fn allow_label(&self, label: Label) -> Result<(), Refusal>
         requires sound { Sound (plain self.now) }
-        ensures { let refusal = first_row (
+        ensures { result_err result ≡ first_row (
             row (names_unknown (plain self.now) label) UnknownCheck
             ∷ row (both_ways label) BothWays
             ∷ row (part_missing (plain self.now) label) PartMissing
             ∷ []
-            ) in MatchResult result (λ _. refusal ≡ None) (λ r. refusal ≡ Some r) }
+            ) }
     {
         if label.names_from(self.checks()) {
             return Err(Refusal::UnknownCheck);
@@ -97,8 +98,7 @@ impl Table {
     // Refuses a new job that is not taken.
     fn allow_job(&self, label: Label) -> Result<(), Refusal>
         requires sound { Sound (plain self.now) }
-        ensures { MatchResult result (λ _. job_refusal (plain self.now) label ≡ None)
-            (λ r. job_refusal (plain self.now) label ≡ Some r) }
+        ensures { result_err result ≡ job_refusal (plain self.now) label }
     {
         if self.jobs.len() >= 20 {
             return Err(Refusal::JobsFull);
@@ -109,8 +109,7 @@ impl Table {
     // Refuses a new check that is not taken.
     fn allow_check(&self, label: Label) -> Result<(), Refusal>
         requires sound { Sound (plain self.now) }
-        ensures { MatchResult result (λ _. check_refusal (plain self.now) label ≡ None)
-            (λ r. check_refusal (plain self.now) label ≡ Some r) }
+        ensures { result_err result ≡ check_refusal (plain self.now) label }
     {
         if self.jobs.len() >= 20 {
             return Err(Refusal::JobsFull);
@@ -123,8 +122,7 @@ impl Table {
 
     // Refuses a new bound that is not taken.
     fn allow_bound(&self, bound: Bound) -> Result<(), Refusal>
-        ensures { MatchResult result (λ _. bound_refusal (plain self.now) bound ≡ None)
-            (λ r. bound_refusal (plain self.now) bound ≡ Some r) }
+        ensures { result_err result ≡ bound_refusal (plain self.now) bound }
     {
         let jobs = self.jobs.len();
         if bound.first >= jobs || bound.second >= jobs {
