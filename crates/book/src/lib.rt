@@ -4,7 +4,7 @@
 pub mod calls;
 mod copying;
 pub mod keeping;
-pub mod labels;
+mod labels;
 pub mod list;
 pub mod parts;
 mod refusals;
