@@ -6,7 +6,7 @@ use Rattle.rules.specs.Rules.{System, Sound, at, rule, alternative}
 use Rattle.rules.specs.Loops.{way}
 use Rattle.rules.proofs.Walks.{Walking, walks_on}
 use Rattle.find.specs.declared.tables.Place.{Place}
-use Rattle.find.specs.Tables.{rules_of}
+use Rattle.find.specs.Tables.{TableView, table_of}
 use Rattle.find.proofs.Places.{no_place, rule_at}
 
 abbrev pub number_of : Option ℕ → ℕ
@@ -28,15 +28,14 @@ pub seen_low : (m : System) (by : List ℕ) (seen : List (Option ℕ)) (out : Li
 seen_low m by seen out n p from w e = let is = seen_at seen p (Some from) e in omega (arith, is, (w.back p (omega (arith, is))).0)
 
 -- the walk goes on to a place that it has not seen
-pub walks_more : (m : System) (sound : Sound m) (places : List Place) (seen : List (Option ℕ)) (out : List ℕ) (n p q : ℕ) →
-    Walking m (rules_of places) (numbers seen) out n p → m.places ≤ length out → get_or seen p None ≡ None →
+pub walks_more : (m : System) (sound : Sound m) (places : List Place) (t : TableView) → table_of places ≡ t → (seen : List (Option ℕ)) (out : List ℕ)
+    (n p q : ℕ) → Walking m t.by (numbers seen) out n p → m.places ≤ length out → get_or seen p None ≡ None →
     q ≡ (alternative (rule m (get_or places p no_place).by) 0).place →
-    Walking m (rules_of places) (numbers (set seen p (Some n))) (set out n (get_or places p no_place).by) (n + 1) q
-walks_more m sound places seen out n p q w wide new is =
-    let by = rules_of places in
-    let e = rule_at places p in
-    let on = walks_on m sound by (numbers seen) out n p w wide (seen_at seen p None new) in
-    let there : (way m (at by p)).place ≡ q = ap (λ r. (way m r).place) e ∙ sym is in
-    subst (λ s. Walking m by s (set out n (get_or places p no_place).by) (n + 1) q) (sym (seen_on seen p n))
-    (subst (λ r. Walking m by (set (numbers seen) p (n + 1)) (set out n r) (n + 1) q) e
-    (subst (Walking m by (set (numbers seen) p (n + 1)) (set out n (at by p)) (n + 1)) there on))
+    Walking m t.by (numbers (set seen p (Some n))) (set out n (get_or places p no_place).by) (n + 1) q
+walks_more m sound places t view seen out n p q w wide new is =
+    let e = rule_at places t view p in
+    let on = walks_on m sound t.by (numbers seen) out n p w wide (seen_at seen p None new) in
+    let there : (way m (at t.by p)).place ≡ q = ap (λ r. (way m r).place) e ∙ sym is in
+    subst (λ s. Walking m t.by s (set out n (get_or places p no_place).by) (n + 1) q) (sym (seen_on seen p n))
+    (subst (λ r. Walking m t.by (set (numbers seen) p (n + 1)) (set out n r) (n + 1) q) e
+    (subst (Walking m t.by (set (numbers seen) p (n + 1)) (set out n (at t.by p)) (n + 1)) there on))

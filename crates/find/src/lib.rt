@@ -6,7 +6,6 @@ mod asking;
 mod finding;
 mod loops;
 mod marks;
-mod rounds;
 mod searching;
 mod tables;
 mod theorems;

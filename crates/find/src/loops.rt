@@ -2,7 +2,6 @@
 ghost use Rattle.std.specs.Prelude.{◌≡◌, ℕ, ◌<◌, ◌≤◌, ◌++◌, map, length, drop, slice_index};
 ghost use Rattle.rules.specs.Loops.{Loop, Stuck};
 ghost use Rattle.find.specs.Answers.{Explains, Looped, origin_of};
-ghost use Rattle.find.specs.Tables.{rules_of};
 
 use crate::answers::{Explained, Refusal};
 use crate::asking::Rule;
@@ -20,11 +19,12 @@ pub(crate) struct Barred {
 
 impl Barred {
     // Walks from the place, by the rules that bar it, until a place comes again. The rules are written over the first of
-    // `walked`; the answer are those of the loop.
+    // `walked`, an array since a search wants no memory; those of the loop are the answer.
     fn walk<'a, T: RuleSystem>(&self, system: &T, walked: &'a mut [usize; PLACES]) -> &'a [usize]
-        requires { Stuck (T.meaning system.now) (rules_of self.now.table.places) self.now.place }
+        requires { Stuck (T.meaning system.now) self.now.table.by self.now.place }
         ensures { Loop (T.meaning system.now) result.now }
     {
+        let table = &self.table;
         let mut seen = [None; PLACES];
         let mut place = self.place;
         let mut n = 0;
@@ -33,16 +33,16 @@ impl Barred {
                 return &walked[from..n];
             }
             seen[place] = Some(n);
-            let number = self.table.places[place].by;
+            let number = table.places[place].by;
             walked[n] = number;
             n += 1;
-            place = Rule { system, number }.way(0).place;
+            place = Rule::new(system, number).way(0).place;
         }
     }
 
     // Writes the origins of a loop over the first of `out`, and says how many they are.
     pub(crate) fn write_loop<T: WithOrigins>(&self, system: &T, out: &mut [Origin]) -> usize
-        requires stuck { Stuck (T.meaning system.now) (rules_of self.now.table.places) self.now.place }
+        requires stuck { Stuck (T.meaning system.now) self.now.table.by self.now.place }
         requires wide { (T.meaning system.now).places ≤ length out.old }
         ensures { Looped (T.meaning system.now) (T.origins system.now) out.old out.new result }
     {
@@ -59,8 +59,9 @@ fn write_origins<T: WithOrigins>(system: &T, rules: &[usize], out: &mut [Origin]
     requires wide { length rules.now ≤ length out.old }
     ensures { out.new ≡ map (origin_of (T.origins system.now)) rules.now ++ drop (length rules.now) out.old }
 {
+    // By index, since the caller's slice is filled in part.
     for (i, &number) in rules.iter().enumerate() {
-        out[i] = Rule { system, number }.origin();
+        out[i] = system.origin(number).unwrap();
     }
 }
 

@@ -1,8 +1,7 @@
 // Marks on places: which of them bar each other.
 ghost use Rattle.std.specs.Prelude.{◌≡◌, ℕ, false, slice_index_or};
-ghost use Rattle.rules.specs.Rules.{rule, at};
+ghost use Rattle.rules.specs.Rules.{at};
 ghost use Rattle.rules.specs.Search.{In, Marked, LeadsOut, Peels, Closed, Ruled, Swept, FirstIn};
-ghost use Rattle.find.specs.Tables.{minutes_of, rules_of};
 
 use crate::asking::Rule;
 use crate::tables::{PLACES, Table};
@@ -17,7 +16,7 @@ pub(crate) struct Marks {
 impl Marks {
     // Marks the places above 0.
     pub(crate) fn above_zero(table: &Table) -> Marks
-        ensures { (p : ℕ) → Marked (slice_index_or result.inside p false) (at (minutes_of table.now.places) p) }
+        ensures { (p : ℕ) → Marked (slice_index_or result.inside p false) (at table.now.minutes p) }
     {
         Marks {
             inside: table.places.map(|place| place.minute > 0),
@@ -26,19 +25,13 @@ impl Marks {
 
     // Takes the mark off each place whose rule leads out, once, and says whether there was any.
     fn sweep<T: RuleSystem>(&mut self, system: &T, table: &Table) -> bool
-        requires { (p : ℕ) → In self.old.inside p → Ruled (T.meaning system.now) (rules_of table.now.places) p }
-        ensures peels { Peels (T.meaning system.now) (rules_of table.now.places) self.old.inside self.new.inside }
-        ensures swept { Swept (T.meaning system.now) (rules_of table.now.places) self.old.inside self.new.inside result }
+        requires { (p : ℕ) → In self.old.inside p → Ruled (T.meaning system.now) table.now.by p }
+        ensures peels { Peels (T.meaning system.now) table.now.by self.old.inside self.new.inside }
+        ensures swept { Swept (T.meaning system.now) table.now.by self.old.inside self.new.inside result }
     {
         let mut dropped = false;
-        for p in 0..system.places() {
-            if self.inside[p]
-                && (Rule {
-                    system,
-                    number: table.places[p].by,
-                })
-                .leads_out(self)
-            {
+        for (p, place) in table.places[..system.places()].iter().enumerate() {
+            if self.inside[p] && Rule::new(system, place.by).leads_out(self) {
                 self.inside[p] = false;
                 dropped = true;
             }
@@ -48,9 +41,9 @@ impl Marks {
 
     // Takes marks off until no rule of a marked place leads out.
     pub(crate) fn peel<T: RuleSystem>(&mut self, system: &T, table: &Table)
-        requires { (p : ℕ) → In self.old.inside p → Ruled (T.meaning system.now) (rules_of table.now.places) p }
-        ensures peels { Peels (T.meaning system.now) (rules_of table.now.places) self.old.inside self.new.inside }
-        ensures closed { Closed (T.meaning system.now) (rules_of table.now.places) self.new.inside }
+        requires { (p : ℕ) → In self.old.inside p → Ruled (T.meaning system.now) table.now.by p }
+        ensures peels { Peels (T.meaning system.now) table.now.by self.old.inside self.new.inside }
+        ensures closed { Closed (T.meaning system.now) table.now.by self.new.inside }
     {
         while self.sweep(system, table) {}
     }
@@ -66,7 +59,7 @@ impl Marks {
 impl<'a, T: RuleSystem> Rule<'a, T> {
     // Whether an alternative of the rule leads to a place that is not marked.
     fn leads_out(&self, marks: &Marks) -> bool
-        ensures { LeadsOut (rule (T.meaning self.now.system.now) self.now.number) marks.now.inside result }
+        ensures { LeadsOut self.now marks.now.inside result }
     {
         (0..self.count()).any(|a| !marks.inside[self.way(a).place])
     }

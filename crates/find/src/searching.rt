@@ -2,7 +2,6 @@
 ghost use Rattle.std.specs.Prelude.{MatchResult};
 ghost use Rattle.rules.specs.Loops.{Stuck};
 ghost use Rattle.rules.specs.Search.{Good, AllKept};
-ghost use Rattle.find.specs.Tables.{minutes_of, rules_of};
 
 use crate::loops::Barred;
 use crate::marks::Marks;
@@ -13,8 +12,8 @@ use rules::system::RuleSystem;
 // bar each other.
 pub(crate) fn search<T: RuleSystem>(system: &T) -> Result<Table, Barred>
     ensures { MatchResult result
-        (λ t. Good (T.meaning system.now) 0 (minutes_of t.places) (rules_of t.places) × AllKept (T.meaning system.now) (minutes_of t.places))
-        (λ b. Stuck (T.meaning system.now) (rules_of b.table.places) b.place) }
+        (λ t. Good (T.meaning system.now) 0 t.minutes t.by × AllKept (T.meaning system.now) t.minutes)
+        (λ b. Stuck (T.meaning system.now) b.table.by b.place) }
 {
     let mut table = Table::new();
     while table.round(system) {

@@ -1,8 +1,11 @@
-// The table of a search.
-ghost use Rattle.std.specs.Prelude.{◌≡◌, ℕ, ◌≤◌, ◌++◌, map, length, take, drop, pos};
-ghost use Rattle.rules.specs.Rules.{System, at};
-ghost use Rattle.rules.specs.Search.{Good};
-ghost use Rattle.find.specs.Tables.{minutes_of, rules_of};
+// The table of a search, and the rounds over the rules that raise its places.
+ghost use Rattle.std.specs.Prelude.{◌≡◌, ◌+◌, ◌<◌, ◌≤◌, ◌++◌, map, length, take, drop, pos};
+ghost use Rattle.rules.specs.Rules.{System, rule, Kept};
+ghost use Rattle.rules.specs.Search.{Good, Grown, AllKept};
+
+use crate::asking::Rule;
+use rules::system::RuleSystem;
+use std::marker::Model;
 
 // As many places as a rule system may have.
 pub(crate) const PLACES: usize = 320;
@@ -14,29 +17,69 @@ pub(crate) struct Place {
     pub(crate) by: usize,
 }
 
-// A place for each that a system may have, on the way to the least table. No search raises one higher than `low` says.
+// A place for each that a system may have, on the way to the least table: an array, since a search wants no memory.
 #[derive(Drop)]
 pub(crate) struct Table {
     pub(crate) places: [Place; PLACES],
-    ghost low: { (p : ℕ) → at (minutes_of places) p ≤ 36771840 },
+}
+
+impl Model for Table {
+    ghost use Rattle.find.specs.Tables.{TableView, IsTable, table_of};
+
+    ghost Value = { TableView };
+
+    ghost view = { λ t. table_of t.places };
+
+    ghost invariant = { λ t. IsTable (table_of t.places) };
 }
 
 impl Table {
     // No place is raised yet.
     pub(crate) fn new() -> Table
-        ensures { (m : System) → Good m 0 (minutes_of result.places) (rules_of result.places) }
+        ensures { (m : System) → Good m 0 result.minutes result.by }
     {
         Table {
             places: [Place { minute: 0, by: 0 }; PLACES],
         }
     }
 
+    // Raises the place that rule `number` holds back, where the table does not keep the rule, and records the rule for it.
+    fn raise<T: RuleSystem>(&mut self, system: &T, number: usize) -> bool
+        requires known { number < length (T.meaning system.now).rules }
+        requires good { Good (T.meaning system.now) number self.old.minutes self.old.by }
+        ensures good { Good (T.meaning system.now) (number + 1) self.new.minutes self.new.by }
+        ensures grown { Grown (Kept self.old.minutes (rule (T.meaning system.now) number)) self.old.minutes self.new.minutes result }
+    {
+        let rule = Rule::new(system, number);
+        let minute = rule.least_asked(self);
+        let held = rule.held();
+        if minute <= self.places[held].minute {
+            return false;
+        }
+        self.places[held] = Place { minute, by: number };
+        true
+    }
+
+    // Goes through the rules once, raising where it has to.
+    pub(crate) fn round<T: RuleSystem>(&mut self, system: &T) -> bool
+        requires { Good (T.meaning system.now) 0 self.old.minutes self.old.by }
+        ensures good { Good (T.meaning system.now) (length (T.meaning system.now).rules) self.new.minutes self.new.by }
+        ensures grown { Grown (AllKept (T.meaning system.now) self.old.minutes) self.old.minutes self.new.minutes result }
+    {
+        let mut rose = false;
+        for number in 0..system.rules() {
+            rose |= self.raise(system, number);
+        }
+        rose
+    }
+
     // Writes the minutes of the first `n` places over those of `minutes`.
     pub(crate) fn write_out(&self, n: usize, minutes: &mut [i32])
-        requires from { n ≤ 320 }
+        requires from { n ≤ PLACES }
         requires wide { n ≤ length minutes.old }
-        ensures { minutes.new ≡ map pos (take n (minutes_of self.now.places)) ++ drop n minutes.old }
+        ensures { minutes.new ≡ map pos (take n self.now.minutes) ++ drop n minutes.old }
     {
+        // By index, since the caller's slice is filled in part.
         for (p, place) in self.places[..n].iter().enumerate() {
             minutes[p] = place.minute as i32;
         }

@@ -4,7 +4,6 @@ use Rattle.rules.specs.Search.{AllKept}
 use Rattle.rules.proofs.Bars.{barred}
 use Rattle.rules.proofs.Peeling.{peeled_in, peeled_low}
 use Rattle.rules.proofs.Steps.{sum_bound, good_again}
-use Rattle.find.specs.Tables.{minutes_of, rules_of}
 use Rattle.find.proofs.searching.search.Goals as goal
 
 pub loop-table-init : goal.loop-table-init
@@ -14,8 +13,8 @@ pub returns-in-Some : goal.returns-in-Some
 returns-in-Some g c =
     let m = g.T.RuleSystem.meaning c.args.system.now in
     let sound = g.T.RuleSystem.sound c.args.system.now in
-    let table = minutes_of c.round.new.self.places in
-    let by = rules_of c.round.new.self.places in
+    let table = c.round.new.self.minutes in
+    let by = c.round.new.self.by in
     let good = c.round.ensures.good in
     let left = c.peel.new.self.inside in
     let marked = peeled_in m sound table by good.recorded c.above_zero-marks.result.inside left c.above_zero-marks.ensures c.peel.ensures.peels in
@@ -23,12 +22,12 @@ returns-in-Some g c =
     record { inside = left; barred = barred m table by good.recorded left marked c.peel.ensures.closed high good.low; here = c.in-Some.ensures }
 
 -- after a round that goes on, every number is low
-low_again : (g : _) (c : goal.In_default g) (p : ℕ) → at (minutes_of c.round.new.self.places) p ≤ 1382400
+low_again : (g : _) (c : goal.In_default g) (p : ℕ) → at c.round.new.self.minutes p ≤ 1382400
 low_again g c p =
     let m = g.T.RuleSystem.meaning c.args.system.now in
     let sound = g.T.RuleSystem.sound c.args.system.now in
-    let table = minutes_of c.round.new.self.places in
-    let by = rules_of c.round.new.self.places in
+    let table = c.round.new.self.minutes in
+    let by = c.round.new.self.by in
     let marks = c.above_zero-marks.result.inside in
     let long : length marks ≡ 320 = search rules in
     peeled_low m sound table by c.round.ensures.good.recorded marks c.peel.new.self.inside long c.above_zero-marks.ensures c.peel.ensures.peels p
@@ -36,21 +35,19 @@ low_again g c p =
 
 pub loop-table-smaller : goal.loop-table-smaller
 loop-table-smaller g c =
-    let after = minutes_of c.round.new.self.places in
+    let after = c.round.new.self.minutes in
     let low : sum after ≤ length after * 1382400 = sum_bound 1382400 after (low_again g c) in
     omega (arith, low, c.loop-table-test.ensures.grown, c.round.ensures.good.wide)
 
 pub loop-table-preserved : goal.loop-table-preserved
 loop-table-preserved g c =
     let m = g.T.RuleSystem.meaning c.args.system.now in
-    let places = c.round.new.self.places in
-    good_again m (length m.rules) (minutes_of places) (rules_of places) (low_again g c) c.round.ensures.good
+    good_again m (length m.rules) c.round.new.self.minutes c.round.new.self.by (low_again g c) c.round.ensures.good
 
 pub returns : goal.returns
 returns g c =
     let m = g.T.RuleSystem.meaning c.args.system.now in
-    let places = c.round.new.self.places in
-    let table = minutes_of places in
+    let table = c.round.new.self.minutes in
     let (e, kept) = c.loop-table-test.ensures.grown in
     let low : (p : ℕ) → at table p ≤ 1382400 = λ p. subst (λ t. at t p ≤ 1382400) (sym e) (omega (arith, c.loop-table.invariant.low p)) in
-    (good_again m (length m.rules) table (rules_of places) low c.round.ensures.good, subst (AllKept m) (sym e) kept)
+    (good_again m (length m.rules) table c.round.new.self.by low c.round.ensures.good, subst (AllKept m) (sym e) kept)

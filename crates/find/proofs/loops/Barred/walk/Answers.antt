@@ -1,45 +1,38 @@
-use Rattle.std.proofs.Common.{◌≡◌, ◌+◌, ◌-◌, ◌<◌, ◌≤◌, length, take, drop, Some, None, ap, subst, arith, rules}
+use Rattle.std.proofs.Common.{◌≡◌, ◌+◌, ◌-◌, ◌<◌, ◌≤◌, length, take, drop, Some, None, ap, ◌∙◌, subst, arith, rules}
 use Rattle.rules.specs.declared.parts.Alternative.{Alternative}
-use Rattle.rules.specs.Rules.{at}
+use Rattle.rules.specs.Rules.{at, alternative}
 use Rattle.rules.specs.Loops.{Loop}
 use Rattle.rules.proofs.Walks.{walks_from, walks_round, walks_cut, room_on}
-use Rattle.find.specs.Tables.{rules_of}
 use Rattle.find.proofs.Seen.{numbers, seen_at, seen_low, walks_more}
 use Rattle.find.proofs.loops.Barred.walk.Goals as goal
 
 pub loop-seen-init : goal.loop-seen-init
 loop-seen-init g c =
-    walks_from (g.T.RuleSystem.meaning c.args.system.now) (g.T.RuleSystem.sound c.args.system.now) (rules_of c.args.self.now.table.places)
+    walks_from (g.T.RuleSystem.meaning c.args.system.now) (g.T.RuleSystem.sound c.args.system.now) c.args.self.now.table.by
     c.args.walked.now c.args.self.now.place c.requires
 
 pub offset_bounds-walked-from : goal.offset_bounds-walked-from
 offset_bounds-walked-from g c =
     let l = c.loop-seen in
-    let low = seen_low (g.T.RuleSystem.meaning c.args.system.now) (rules_of c.args.self.now.table.places) l.seen l.walked l.n l.place c.in-Some.from
-    l.invariant c.in-Some.is in
+    let low = seen_low (g.T.RuleSystem.meaning c.args.system.now) c.args.self.now.table.by l.seen l.walked l.n l.place c.in-Some.from l.invariant c.in-Some.is in
     omega (arith, (g.T.RuleSystem.sound c.args.system.now).few, l.invariant.room, low)
 
 pub slice_bounds-result-count : goal.slice_bounds-result-count
 slice_bounds-result-count g c =
     let l = c.loop-seen in
-    omega (
-      arith,
-      seen_low (g.T.RuleSystem.meaning c.args.system.now) (rules_of c.args.self.now.table.places) l.seen l.walked l.n l.place c.in-Some.from
-          l.invariant c.in-Some.is,
-    )
+    omega (arith, seen_low (g.T.RuleSystem.meaning c.args.system.now) c.args.self.now.table.by l.seen l.walked l.n l.place c.in-Some.from l.invariant c.in-Some.is)
 
 pub slice_bounds-result-start : goal.slice_bounds-result-start
 slice_bounds-result-start g c =
     let l = c.loop-seen in
-    let low = seen_low (g.T.RuleSystem.meaning c.args.system.now) (rules_of c.args.self.now.table.places) l.seen l.walked l.n l.place c.in-Some.from
-    l.invariant c.in-Some.is in
+    let low = seen_low (g.T.RuleSystem.meaning c.args.system.now) c.args.self.now.table.by l.seen l.walked l.n l.place c.in-Some.from l.invariant c.in-Some.is in
     search rules
 
 pub returns-in-Some : goal.returns-in-Some
 returns-in-Some g c =
     let m = g.T.RuleSystem.meaning c.args.system.now in
     let sound = g.T.RuleSystem.sound c.args.system.now in
-    let by = rules_of c.args.self.now.table.places in
+    let by = c.args.self.now.table.by in
     let walked = c.loop-seen.walked in
     let n = c.loop-seen.n in
     let from = c.in-Some.from in
@@ -61,7 +54,7 @@ bounds-walked-n g c =
     omega (
       arith,
       sound.few,
-      room_on m sound (rules_of c.args.self.now.table.places) (numbers c.loop-seen.seen) c.loop-seen.walked c.loop-seen.n
+      room_on m sound c.args.self.now.table.by (numbers c.loop-seen.seen) c.loop-seen.walked c.loop-seen.n
           c.loop-seen.place c.loop-seen.invariant (omega (arith, sound.few, long)) new,
     )
 
@@ -73,7 +66,7 @@ loop-seen-smaller g c =
     let new = seen_at c.loop-seen.seen c.loop-seen.place None c.in_default.is in
     omega (
       arith,
-      room_on m sound (rules_of c.args.self.now.table.places) (numbers c.loop-seen.seen) c.loop-seen.walked c.loop-seen.n
+      room_on m sound c.args.self.now.table.by (numbers c.loop-seen.seen) c.loop-seen.walked c.loop-seen.n
           c.loop-seen.place c.loop-seen.invariant (omega (arith, sound.few, long)) new,
     )
 
@@ -82,5 +75,6 @@ loop-seen-preserved g c =
     let m = g.T.RuleSystem.meaning c.args.system.now in
     let sound = g.T.RuleSystem.sound c.args.system.now in
     let long : length c.loop-seen.walked ≡ 320 = search rules in
-    walks_more m sound c.args.self.now.table.places c.loop-seen.seen c.loop-seen.walked c.loop-seen.n c.loop-seen.place c.way-place.result.place
-    c.loop-seen.invariant (omega (arith, sound.few, long)) c.in_default.is (ap (λ (x : Alternative). x.place) c.way-place.ensures)
+    walks_more m sound c.table.inside.places c.args.self.now.table c.table.view_is c.loop-seen.seen c.loop-seen.walked c.loop-seen.n
+    c.loop-seen.place c.way-place.result.place c.loop-seen.invariant (omega (arith, sound.few, long)) c.in_default.is
+    (ap (λ (x : Alternative). x.place) c.way-place.ensures.value ∙ ap (λ k. (alternative k 0).place) c.new.ensures)

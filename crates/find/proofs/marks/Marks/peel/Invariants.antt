@@ -1,9 +1,8 @@
 use Rattle.rules.specs.Search.{Peels, marks}
-use Rattle.find.specs.Tables.{rules_of}
 use Rattle.find.proofs.marks.Marks.peel.Given as goal
 
 abbrev pub invariant-loop : goal.invariant-loop
-invariant-loop g l = Peels (g.T.RuleSystem.meaning l.system) (rules_of l.table.places) l.initial.self.inside l.self.inside
+invariant-loop g l = Peels (g.T.RuleSystem.meaning l.system) l.table.by l.initial.self.inside l.self.inside
 
 abbrev pub decreases-loop : goal.decreases-loop
 decreases-loop g l = marks l.self.inside

@@ -1,37 +1,29 @@
-use Rattle.std.proofs.Common.{◌≡◌, ◌<◌, ◌≤◌, set, take, pos, ap, ◌∙◌, sym, arith, w32, to_z, get_or, length, rules}
+use Rattle.std.proofs.Common.{◌≡◌, ◌<◌, set, take, pos, ap, ◌∙◌, arith, w32, to_z, get_or}
 use Rattle.std.proofs.lemmas.Int.{ints}
-use Rattle.std.proofs.lemmas.List.{get_or-take, length-take-le, length-map}
+use Rattle.std.proofs.lemmas.List.{length-take}
 use Rattle.rules.specs.Rules.{at}
 use Rattle.rules.proofs.Steps.{written_more}
 use Rattle.find.specs.declared.tables.Place.{Place}
-use Rattle.find.specs.Tables.{minutes_of}
-use Rattle.find.proofs.Places.{no_place, minute_at}
+use Rattle.find.specs.Tables.{IsTable}
+use Rattle.find.proofs.Places.{no_place, minute_in, is_table}
 use Rattle.find.proofs.tables.Table.write_out.Goals as goal
 
--- the place of a turn is among the first `n`
-turn : (c : goal.After-row_known-1) → (c.loop-p.p < c.args.n) × (c.args.n ≤ length c.args.self.now.places)
-turn c =
-    let places = c.args.self.now.places in
-    let long : length places ≡ 320 = search rules in
-    let wide : c.args.n ≤ length places = omega (arith, long, c.requires.from) in
-    (omega (arith, length-take-le c.args.n places wide, c.loop-p-test.true), wide)
-
--- and has the table's minute
-minute : (c : goal.After-row_known-1) →
-    (get_or (take c.args.n c.args.self.now.places) c.loop-p.p no_place).minute ≡ at (minutes_of c.args.self.now.places) c.loop-p.p
-minute c =
-    let places = c.args.self.now.places in
-    ap (λ (x : Place). x.minute) (get_or-take c.args.n places c.loop-p.p no_place (turn c).0) ∙ sym (minute_at places c.loop-p.p)
+table : (c : goal.After-row_known-1) → IsTable c.args.self.now
+table c = is_table c.self.inside.places c.args.self.now c.self.view_is c.self.invariant
 
 pub loop-p-preserved : goal.loop-p-preserved
 loop-p-preserved c =
-    let places = c.args.self.now.places in
-    let table = minutes_of places in
+    let t = c.args.self.now in
+    let n = c.args.n in
     let p = c.loop-p.p in
-    let e : to_z w32 (get_or (take c.args.n places) p no_place).minute ≡ pos (at table p) = omega (arith, ints, minute c, c.args.self.now.low p) in
-    let within : p < length table = omega (arith, length-map places (λ (x : Place). x.minute), turn c) in
+    let is = minute_in c.self.inside.places t c.self.view_is n p c.loop-p-test.true in
+    let e : to_z w32 (get_or (take n c.self.inside.places) p no_place).minute ≡ pos (at t.minutes p) = omega (arith, ints, is, (table c).low p) in
+    let turn : p < n = omega (arith, length-take n c.self.inside.places) in
     ap (set c.loop-p.minutes p) e
-    ∙ written_more pos table 0 c.args.minutes.now c.loop-p.minutes (pos 0) p within (omega (arith, turn c, c.requires.wide)) c.loop-p.invariant
+    ∙ written_more pos t.minutes 0 c.args.minutes.now c.loop-p.minutes (pos 0) p (omega (arith, (table c).sized, turn, c.requires.from))
+    (omega (arith, turn, c.requires.wide)) c.loop-p.invariant
 
 pub overflow_cast-minutes : goal.overflow_cast-minutes
-overflow_cast-minutes c = omega (arith, ints, minute c, c.args.self.now.low c.loop-p.p)
+overflow_cast-minutes c =
+    let p = c.loop-p.p in
+    omega (arith, ints, minute_in c.self.inside.places c.args.self.now c.self.view_is c.args.n p c.loop-p-test.true, (table c).low p)

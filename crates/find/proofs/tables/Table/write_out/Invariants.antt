@@ -1,6 +1,5 @@
 use Rattle.std.proofs.Common.{◌≡◌, ◌++◌, map, take, drop, pos}
-use Rattle.find.specs.Tables.{minutes_of}
 use Rattle.find.proofs.tables.Table.write_out.Given as goal
 
 abbrev pub invariant-loop-p : goal.invariant-loop-p
-invariant-loop-p l = l.minutes ≡ map pos (take l.p (minutes_of l.self.places)) ++ drop l.p l.initial.minutes
+invariant-loop-p l = l.minutes ≡ map pos (take l.p l.self.minutes) ++ drop l.p l.initial.minutes
