@@ -3,6 +3,7 @@ ghost use Rattle.std.specs.Prelude.{◌≡◌, ◌≤◌, ◌↔◌, IsTrue, IsS
 ghost use Rattle.format.specs.Names.{NameIn, AllNamesIn, name_of};
 
 use crate::parts::NamePlace;
+use book::keeping::Book;
 
 // A text, and the places of the names in it: each stands in the text, and has at most 8 letters.
 #[derive(Clone, Copy)]
@@ -47,4 +48,11 @@ impl<'a> Names<'a> {
             None => b"",
         }
     }
+}
+
+// A plan as it was read: its book, and the names of its jobs.
+#[derive(Clone, Copy)]
+pub struct Plan<'a> {
+    pub book: &'a Book,
+    pub names: Names<'a>,
 }
