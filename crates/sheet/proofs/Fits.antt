@@ -1,8 +1,10 @@
 -- How long a sheet can be: its names have at most 8 letters, its minutes at most 10 digits.
-use Rattle.std.proofs.Common.{◌≡◌, ℕ, zero, suc, ◌+◌, ◌*◌, ◌^◌, ◌<◌, ◌≤◌, Bool, true, false, List, length, get_or, drop, ℤ, pos, negsuc}
-use Rattle.std.proofs.Common.{decimal, add-one, arith, length-append, length-take}
+use Rattle.std.proofs.Common.{◌≡◌, ℕ, zero, suc, ◌+◌, ◌*◌, ◌^◌, ◌<◌, ◌≤◌, Bool, true, false, List, [], ◌∷◌, length, get_or, take, drop, ℤ, pos, negsuc}
+use Rattle.std.proofs.Common.{All, decimal, add-one, refl, ◌⊎◌, inl, inr, arith, length-append, length-take}
 use lib.Signed.{mag}
+use Rattle.std.proofs.lemmas.List.Elements.{All-get_or}
 use Rattle.std.proofs.lemmas.Fmt.{length-decimal-le}
+use Rattle.std.proofs.lemmas.List.Sums.{count_by-le-length}
 use Rattle.format.specs.declared.parts.NamePlace.{NamePlace}
 use Rattle.format.specs.declared.parts.Fault.{Fault}
 use Rattle.format.specs.declared.parts.FileFault.{FileFault}
@@ -11,6 +13,7 @@ use Rattle.format.specs.declared.parts.FileFault.TheVariants.{UnknownName, Trail
 use Rattle.format.specs.declared.parts.Reason.{Reason}
 use Rattle.format.specs.declared.parts.Reason.TheVariants.{File, Book}
 use Rattle.format.specs.Faults.{file_number, reason_number}
+use Rattle.format.specs.Names.{no_place, name_of, AllNamesIn}
 use Rattle.book.specs.declared.parts.Refusal.{Refusal}
 use Rattle.book.specs.declared.parts.Refusal.TheVariants.{JobsFull, ChecksFull, UnknownCheck, BothWays, PartMissing, UnknownJob}
 use Rattle.book.specs.declared.parts.Refusal.TheVariants.{MinutesBeyond, SameJob, Exclusive, BoundsFull, UnknownBound}
@@ -20,15 +23,38 @@ use Rattle.rules.specs.declared.parts.Origin.{Origin}
 use Rattle.rules.specs.declared.parts.Origin.TheVariants.{Bound, Start, Check}
 use Rattle.sheet.specs.declared.grade.Grade.{Grade}
 use Rattle.sheet.specs.declared.grade.Grade.TheVariants.{Strong, Dynamic, Weak}
-use Rattle.sheet.specs.Sheet.{layer_word, fault_line, answer_word, verdict_lines, grade_word, job_line, job_lines, jobs_done, one_if_done}
-use Rattle.sheet.specs.Sheet.{row_of, case_lines, cases_lines, table_lines, Within, origin_line, origin_lines, loop_lines, no_place}
-use Rattle.sheet.specs.Sheet.{name_of, Named}
+use Rattle.sheet.specs.Sheet.{layer_word, fault_line, answer_word, verdict_lines, grade_word, job_line, job_lines, jobs_done, is_done}
+use Rattle.sheet.specs.Sheet.{row_of, case_lines, cases_lines, table_lines, Within, origin_line, origin_lines, loop_lines}
 
-pub digits_2 : (n : ℕ) → n < 100 → length (decimal n) ≤ 2
+digits_2 : (n : ℕ) → n < 100 → length (decimal n) ≤ 2
 digits_2 n h = length-decimal-le 2 n (omega arith) h (omega arith)
 
-pub digits_10 : (n : ℕ) → n < 2 ^ 31 → length (decimal n) ≤ 10
+digits_10 : (n : ℕ) → n < 2 ^ 31 → length (decimal n) ≤ 10
 digits_10 n h = length-decimal-le 10 n (omega arith) (omega arith) (omega arith)
+
+-- every name has at most 8 letters
+abbrev pub ShortNames : (ℕ → List ℕ) → Type 0
+ShortNames name = (j : ℕ) → length (name j) ≤ 8
+
+nat_le_or : (j n : ℕ) → (j < n) ⊎ (n ≤ j)
+nat_le_or j zero = inr (omega arith)
+nat_le_or zero (suc n) = inl (omega arith)
+nat_le_or (suc j) (suc n) = elim (nat_le_or j n) [ inl l ↦ inl (omega arith) | inr l ↦ inr (omega arith) ]
+
+past_places : (places : List NamePlace) (j : ℕ) → length places ≤ j → get_or places j no_place ≡ no_place
+past_places [] j h = refl
+past_places (p ∷ ps) zero h = absurd (omega arith)
+past_places (p ∷ ps) (suc j) h = past_places ps j (omega arith)
+
+pub names_short : (text : List ℕ) (places : List NamePlace) → AllNamesIn text places → ShortNames (name_of text places)
+names_short text places h zero = omega arith
+names_short text places h (suc j) =
+    let p = get_or places j no_place in
+    let cut = length-take p.length (drop p.byte text) in
+    elim (nat_le_or j (length places)) as (λ _. length (take p.length (drop p.byte text)) ≤ 8) [
+      | inl l ↦ omega (arith, (h j l).short, cut)
+      | inr l ↦ rw (past_places places j l) (omega arith)
+    ]
 
 pub job_fits : (name : List ℕ) (z : ℤ) → mag z < 2 ^ 31 → length name ≤ 8 → length (job_line name z) ≤ 20
 job_fits name (pos m) h n = let d = digits_10 m h in simp length-append (omega arith)
@@ -40,29 +66,21 @@ jobs_fit name row i n z more p q one =
     let line : length (job_line (name i) (get_or row i (pos 0))) ≤ 20 = rw (p, q) at one in
     rw (add-one i) (rw (length-append (job_lines name row i) (job_line (name i) (get_or row i (pos 0)))) (omega arith))
 
-done_few : (z : ℤ) → one_if_done z ≤ 1
-done_few (pos m) = omega arith
-done_few (negsuc m) = omega arith
-
-done_below : (row : List ℤ) (n : ℕ) → jobs_done row n ≤ n
-done_below row zero = omega arith
-done_below row (suc n) = let more = done_below row n in let one = done_few (get_or row n (pos 0)) in omega arith
-
-pub case_fits : (name : ℕ → List ℕ) (jobs s : ℕ) (row : List ℤ) → jobs ≤ 20 → s < 16 → length (job_lines name row jobs) ≤ 20 * jobs
-    → length (case_lines name jobs s row) ≤ 416
-case_fits name jobs s row few l lines =
-    let count = done_below row jobs in
-    let a = digits_2 s (omega arith) in
-    let b = digits_2 (jobs_done row jobs) (omega arith) in
+pub case_fits : (name : ℕ → List ℕ) (case : ℕ) (row : List ℤ) → case < 2 ^ 8 → length row < 2 ^ 64 → length (job_lines name row (length row)) ≤ 20 * length row
+    → length (case_lines name (length row) case row) ≤ 35 + 20 * length row
+case_fits name case row l long lines =
+    let count : jobs_done row ≤ length row = count_by-le-length is_done row in
+    let a = length-decimal-le 3 case (omega arith) (omega arith) (omega arith) in
+    let b = length-decimal-le 20 (jobs_done row) (omega arith) (omega arith) (omega arith) in
     simp length-append (omega arith)
 
-pub cases_fit : (name : ℕ → List ℕ) (jobs : ℕ) (minutes : List ℤ) (s k : ℕ) (row : List ℤ) → length (cases_lines name jobs minutes s) ≤ 416 * s
-    → row ≡ row_of minutes jobs s → k ≡ jobs → length (case_lines name k s row) ≤ 416 → length (cases_lines name jobs minutes (s + 1)) ≤ 416 * (s + 1)
-cases_fit name jobs minutes s k row more p q one =
-    let lines : length (case_lines name jobs s (row_of minutes jobs s)) ≤ 416 = rw (p, q) at one in
+pub cases_fit : (name : ℕ → List ℕ) (jobs : ℕ) (minutes : List ℤ) (s k : ℕ) (row : List ℤ) → jobs ≤ 20 → length (cases_lines name jobs minutes s) ≤ 435 * s
+    → row ≡ row_of minutes jobs s → k ≡ jobs → length (case_lines name k s row) ≤ 35 + 20 * k → length (cases_lines name jobs minutes (s + 1)) ≤ 435 * (s + 1)
+cases_fit name jobs minutes s k row few more p q one =
+    let lines : length (case_lines name jobs s (row_of minutes jobs s)) ≤ 35 + 20 * jobs = rw (p, q) at one in
     rw (add-one s) (rw (length-append (cases_lines name jobs minutes s) (case_lines name jobs s (row_of minutes jobs s))) (omega arith))
 
-pub answer_fits : (b : Bool) → length (answer_word b) ≤ 3
+answer_fits : (b : Bool) → length (answer_word b) ≤ 3
 answer_fits true = omega arith
 answer_fits false = omega arith
 
@@ -73,36 +91,27 @@ verdicts_fit strong dynamic weak =
     let c = answer_fits weak in
     simp length-append (omega arith)
 
-pub grade_fits : (g : Grade) → length (grade_word g) ≤ 7
+grade_fits : (g : Grade) → length (grade_word g) ≤ 7
 grade_fits Strong = omega arith
 grade_fits Dynamic = omega arith
 grade_fits Weak = omega arith
 
 pub table_fits : (g : Grade) (name : ℕ → List ℕ) (jobs : ℕ) (minutes : List ℤ) (cases : ℕ) → cases ≤ 16 →
-    length (cases_lines name jobs minutes cases) ≤ 416 * cases
-    → length (table_lines g name jobs minutes cases) ≤ 6679
+    length (cases_lines name jobs minutes cases) ≤ 6960 → length (table_lines g name jobs minutes cases) ≤ 7000
 table_fits g name jobs minutes cases l lines =
     let a = digits_2 cases (omega arith) in
     let w = grade_fits g in
     simp length-append (omega arith)
 
--- the names of a plan are short
-pub name_short : (text : List ℕ) (places : List NamePlace) (n j : ℕ) → Named text places n → j < n → length (name_of text places j) ≤ 8
-name_short text places n zero h l = omega arith
-name_short text places n (suc j) h l =
-    let p = get_or places j no_place in
-    omega (arith, (h.each j l).short, length-take p.length (drop p.byte text))
-
-pub origin_fits : (b : Plain) (name : ℕ → List ℕ) (o : Origin) → Sound b → ((j : ℕ) → j < length b.jobs → length (name j) ≤ 8) → Within b o
-    → length (origin_line b name o) ≤ 24
+origin_fits : (b : Plain) (name : ℕ → List ℕ) (o : Origin) → Sound b → ShortNames name → Within b o → length (origin_line b name o) ≤ 24
 origin_fits b name (Bound n) s names h = let d = digits_2 n (omega (arith, s.few_bounds)) in simp length-append (omega arith)
-origin_fits b name (Start j) s names h = let a = names j h in simp length-append (omega arith)
+origin_fits b name (Start j) s names h = let a = names j in simp length-append (omega arith)
 origin_fits b name (Check c j) s names h =
-    let a = names (asking b c) (s.asked c h.0).0 in
-    let d = names j h.1 in
+    let a = names (asking b c) in
+    let d = names j in
     simp length-append (omega arith)
 
-pub origins_fit : (b : Plain) (name : ℕ → List ℕ) (origins : List Origin) (n : ℕ) → Sound b → ((j : ℕ) → j < length b.jobs → length (name j) ≤ 8)
+origins_fit : (b : Plain) (name : ℕ → List ℕ) (origins : List Origin) (n : ℕ) → Sound b → ShortNames name
     → ((i : ℕ) → i < n → Within b (get_or origins i (Bound 0))) → length (origin_lines b name origins n) ≤ 24 * n
 origins_fit b name origins zero s names h = omega arith
 origins_fit b name origins (suc n) s names h =
@@ -110,11 +119,11 @@ origins_fit b name origins (suc n) s names h =
     let one = origin_fits b name (get_or origins n (Bound 0)) s names (h n (omega arith)) in
     rw (length-append (origin_lines b name origins n) (origin_line b name (get_or origins n (Bound 0)))) (omega arith)
 
-pub loop_fits : (b : Plain) (name : ℕ → List ℕ) (case : ℕ) (origins : List Origin) → Sound b → ((j : ℕ) → j < length b.jobs → length (name j) ≤ 8)
-    → ((i : ℕ) → i < length origins → Within b (get_or origins i (Bound 0))) → case < 100 → length origins ≤ 20 → length (loop_lines b name case origins) ≤ 497
+pub loop_fits : (b : Plain) (name : ℕ → List ℕ) (case : ℕ) (origins : List Origin) → Sound b → ShortNames name
+    → All (Within b) origins → case < 16 → length origins ≤ 20 → length (loop_lines b name case origins) ≤ 7000
 loop_fits b name case origins s names h l few =
-    let lines = origins_fit b name origins (length origins) s names h in
-    let a = digits_2 case l in
+    let lines = origins_fit b name origins (length origins) s names (λ i k. All-get_or (Within b) origins i (Bound 0) k h) in
+    let a = digits_2 case (omega arith) in
     let d = digits_2 (length origins) (omega arith) in
     simp length-append (omega arith)
 

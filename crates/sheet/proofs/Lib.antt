@@ -1,5 +1,5 @@
 mod Fits
 mod Judging
 mod Origins
-mod Placed
+mod Rests
 mod Rows

@@ -1,10 +1,13 @@
 -- Every origin of a plan's rules names a bound, jobs and a check of the book.
-use Rattle.std.proofs.Common.{ℕ, zero, suc, ◌<◌, not, eqb, List, [], ◌∷◌, ◌++◌, map, length, get_or, arith}
+use Rattle.std.proofs.Common.{◌≡◌, Some, refl, ℕ, zero, suc, ◌<◌, not, eqb, List, [], ◌∷◌, ◌++◌, map, length, get_or, arith}
 use lib.ListN.{length-map}
+use Rattle.std.proofs.lemmas.Bool.{lt-ltb}
+use Rattle.book.specs.Done.{check_job}
+use Rattle.book.specs.Sound.{Sound}
 use Rattle.book.specs.declared.parts.Kind.{Kind}
 use Rattle.book.specs.declared.parts.Kind.TheVariants.{Least, Most}
 use Rattle.book.specs.Labels.{names}
-use Rattle.book.specs.Plain.{Plain, job, bound, checks}
+use Rattle.book.specs.Plain.{Plain, job, bound, checks, asking}
 use Rattle.rules.specs.declared.parts.Origin.TheVariants.{Bound}
 use Rattle.std.proofs.lemmas.List.{get_or-map}
 use Rattle.rules.specs.Rules.{System}
@@ -58,3 +61,7 @@ loop_known b s rs loop i h =
     let inn = chain_in (weak_system b s) rs loop.from loop.from i loop.closes h in
     let long = length-map hs (rule_of (λ j. j)) in
     rw (get_or-map (origin_of (weak_origins b s)) rs i 0 (Bound 0) h) (known_at b hs r (omega (arith, inn, long)) (in_known b s (holds b) (holds_known b)))
+
+-- a check of the book is one of its jobs
+pub check_found : (b : Plain) (c : ℕ) → Sound b → c < checks b → check_job b c ≡ Some (asking b c)
+check_found b c s h = rw (lt-ltb (asking b c) (length b.jobs) (s.asked c h).0) refl

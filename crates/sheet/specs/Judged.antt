@@ -1,17 +1,18 @@
 -- What is known once the three verdicts are asked for: the minutes are those of the strongest grade that has a yes.
-use Rattle.std.specs.Prelude.{◌≡◌, ℕ, ◌<◌, ◌≤◌, Bool, true, false, List, ◌++◌, map, length, take, ℤ, slice_index_or}
+use Rattle.std.specs.Prelude.{◌≡◌, ℕ, ◌≤◌, Bool, true, false, List, ◌++◌, map, length, take, ℤ}
 use Rattle.book.specs.Plain.{Plain}
 use Rattle.rules.specs.declared.parts.Origin.{Origin}
-use Rattle.rules.specs.declared.parts.Origin.TheVariants.{Bound}
 use Rattle.rules.specs.Loops.{Loop}
 use Rattle.find.specs.Answers.{origin_of}
 use Rattle.grades.specs.Grades.{Minutes, Earliest}
 use Rattle.grades.specs.Systems.{weak_system, weak_origins, listed}
+use Rattle.verdicts.specs.declared.answers.WeakAnswer.{WeakAnswer}
+use Rattle.verdicts.specs.declared.answers.WeakAnswer.TheVariants.{Yes, No}
 use Rattle.verdicts.specs.Verdicts.{size, NoStrategy, LowestFailing}
 use Rattle.sheet.specs.declared.grade.Grade.{Grade}
 use Rattle.sheet.specs.declared.grade.Grade.TheVariants.{Strong, Dynamic, Weak}
 use Rattle.sheet.specs.declared.verdict.Verdicts.{Verdicts}
-use Rattle.sheet.specs.Sheet.{strongest, rest_lines, Within}
+use Rattle.sheet.specs.Sheet.{strongest, is_yes}
 use Rattle.sheet.specs.Printed.{good, Verdict, Rest, PlanSheet, SheetOf}
 
 -- the minutes begin with those of the earliest strategy of a grade
@@ -28,21 +29,25 @@ abbrev pub Looping : Plain → List Origin → ℕ → ℕ → Type 0
 Looping b origins s n =
     LowestFailing b s × (rs : List ℕ) × Loop (weak_system b s) rs × (length rs ≡ n) × (take n origins ≡ map (origin_of (weak_origins b s)) rs)
 
-abbrev pub WeaklyAsked : Plain → List ℤ → List ℤ → List Origin → Bool → ℕ → ℕ → Type 0
-WeaklyAsked b before after origins true s n = Holds b Weak after × (s ≡ 0) × (n ≡ 0)
-WeaklyAsked b before after origins false s n = NoStrategy (good b Weak) × (after ≡ before) × Looping b origins s n
+-- the minutes are those of the strongest grade with a yes; with none, the origins are those of a loop
+abbrev pub Shown : Plain → List ℤ → List Origin → Bool → Bool → WeakAnswer → Type 0
+Shown b minutes origins true dynamic weak = Holds b Strong minutes
+Shown b minutes origins false true weak = Holds b Dynamic minutes
+Shown b minutes origins false false Yes = Holds b Weak minutes
+Shown b minutes origins false false (No case length) = Looping b origins case length
 
 pub record Judged (b : Plain) (minutes : List ℤ) (origins : List Origin) (v : Verdicts) : Type 0 where
   pub strong_is : Verdict b Strong v.strong
   pub dynamic_is : Verdict b Dynamic v.dynamic
-  pub weak_is : Verdict b Weak v.weakly.good
-  pub rest_is : (name : ℕ → List ℕ) → Rest b name (strongest v.strong v.dynamic v.weakly.good)
-      (rest_lines b name (strongest v.strong v.dynamic v.weakly.good) (take (size b) minutes) v.weakly.case (take v.weakly.length origins))
-  pub below : v.weakly.case < 16
-  pub few : v.weakly.length ≤ 20
-  pub known : (i : ℕ) → i < length (take v.weakly.length origins) → Within b (slice_index_or (take v.weakly.length origins) i (Bound 0))
+  pub weak_is : Verdict b Weak (is_yes v.weak)
+  pub shown : Shown b minutes origins v.strong v.dynamic v.weak
 
--- the sheet of a plan, no longer than 8,192 bytes, was put at the end of a text
+-- what follows the verdicts was put at the end of a page
+abbrev pub RestPut : Plain → (ℕ → List ℕ) → Verdicts → List ℕ → List ℕ → Type 0
+RestPut b name v before after =
+    (rest : List ℕ) × Rest b name (strongest v.strong v.dynamic (is_yes v.weak)) rest × (length rest ≤ 7000) × (after ≡ before ++ rest)
+
+-- the sheet of a plan, no longer than 8,192 bytes, was put at the end of a page
 abbrev pub SheetPut : Plain → (ℕ → List ℕ) → List ℕ → List ℕ → Type 0
 SheetPut b name before after = (sheet : List ℕ) × PlanSheet b name sheet × (length sheet ≤ 8192) × (after ≡ before ++ sheet)
 

@@ -9,11 +9,12 @@ use Rattle.grades.specs.Systems.{weak_system, weak_origins, listed}
 use Rattle.verdicts.specs.Verdicts.{NoStrategy, LowestFailing}
 use Rattle.format.specs.declared.parts.Fault.{Fault}
 use Rattle.format.specs.declared.parts.NamePlace.{NamePlace}
+use Rattle.format.specs.Names.{name_of}
 use Rattle.sheet.specs.declared.grade.Grade.{Grade}
 use Rattle.sheet.specs.declared.grade.Grade.TheVariants.{Strong, Dynamic, Weak}
 use Rattle.sheet.specs.declared.refusal.Refusal.{Refusal}
 use Rattle.sheet.specs.declared.refusal.Refusal.TheVariants.{OutputShort, NoMemory}
-use Rattle.sheet.specs.Sheet.{fault_line, verdict_lines, strongest, table_lines, loop_lines, name_of}
+use Rattle.sheet.specs.Sheet.{fault_line, verdict_lines, strongest, table_lines, loop_lines}
 
 -- the strategies of a grade
 abbrev pub good : Plain → Grade → Minutes → Type 0

@@ -1,14 +1,15 @@
 -- The sheet that is printed for a plan, line by line.
-use Rattle.std.specs.Prelude.{ℕ, zero, suc, ◌+◌, ◌*◌, ◌<◌, ◌≤◌, Bool, true, false, List, [], ◌∷◌, ◌++◌, length, take, drop, ℤ, pos, negsuc}
-use Rattle.std.specs.Prelude.{Some, None, codes, decimal, Option, slice_index_or}
+use Rattle.std.specs.Prelude.{ℕ, zero, suc, ◌*◌, ◌<◌, Bool, true, false, List, [], ◌∷◌, ◌++◌, length, take, drop, ℤ, pos, negsuc}
+use Rattle.std.specs.Prelude.{Some, None, codes, decimal, Option, slice_index_or, count_by}
 use Rattle.book.specs.Plain.{Plain, asking, checks, cases}
 use Rattle.rules.specs.declared.parts.Origin.{Origin}
 use Rattle.rules.specs.declared.parts.Origin.TheVariants.{Bound, Start, Check}
 use Rattle.format.specs.declared.parts.Fault.{Fault}
-use Rattle.format.specs.declared.parts.NamePlace.{NamePlace}
 use Rattle.format.specs.declared.parts.Reason.{Reason}
 use Rattle.format.specs.declared.parts.Reason.TheVariants.{File, Book}
 use Rattle.format.specs.Faults.{reason_number}
+use Rattle.verdicts.specs.declared.answers.WeakAnswer.{WeakAnswer}
+use Rattle.verdicts.specs.declared.answers.WeakAnswer.TheVariants.{Yes, No}
 use Rattle.sheet.specs.declared.grade.Grade.{Grade}
 use Rattle.sheet.specs.declared.grade.Grade.TheVariants.{Strong, Dynamic, Weak}
 
@@ -51,13 +52,12 @@ job_lines name row zero = []
 job_lines name row (suc n) = job_lines name row n ++ job_line (name n) (slice_index_or row n (pos 0))
 
 -- how many of them are done
-abbrev pub one_if_done : ℤ → ℕ
-one_if_done (pos m) = 1
-one_if_done (negsuc m) = 0
+abbrev pub is_done : ℤ → Bool
+is_done (pos m) = true
+is_done (negsuc m) = false
 
-abbrev pub jobs_done : List ℤ → ℕ → ℕ
-jobs_done row zero = 0
-jobs_done row (suc n) = jobs_done row n + one_if_done (slice_index_or row n (pos 0))
+abbrev pub jobs_done : List ℤ → ℕ
+jobs_done row = count_by is_done row
 
 -- the minutes of a case in a list that has them case by case
 abbrev pub row_of : List ℤ → ℕ → ℕ → List ℤ
@@ -65,7 +65,7 @@ row_of minutes jobs s = take jobs (drop (s * jobs) minutes)
 
 -- a case with its number of jobs done, and their lines
 abbrev pub case_lines : (ℕ → List ℕ) → ℕ → ℕ → List ℤ → List ℕ
-case_lines name jobs s row = line (codes "case" ∷ decimal s ∷ codes "jobs" ∷ decimal (jobs_done row jobs) ∷ []) ++ job_lines name row jobs
+case_lines name jobs s row = line (codes "case" ∷ decimal s ∷ codes "jobs" ∷ decimal (jobs_done row) ∷ []) ++ job_lines name row jobs
 
 abbrev pub cases_lines : (ℕ → List ℕ) → ℕ → List ℤ → ℕ → List ℕ
 cases_lines name jobs minutes zero = []
@@ -102,37 +102,13 @@ strongest false false false = None
 abbrev pub verdict_lines : Bool → Bool → Bool → List ℕ
 verdict_lines strong dynamic weak = (verdict_line Strong strong ++ verdict_line Dynamic dynamic) ++ verdict_line Weak weak
 
--- what follows the verdicts: the table of the strongest grade with a yes, or a failing case with a loop
-abbrev pub rest_lines : Plain → (ℕ → List ℕ) → Option Grade → List ℤ → ℕ → List Origin → List ℕ
-rest_lines b name (Some g) minutes case origins = table_lines g name (length b.jobs) minutes (cases b)
-rest_lines b name None minutes case origins = loop_lines b name case origins
-
-abbrev pub plan_lines : Plain → (ℕ → List ℕ) → Bool → Bool → Bool → List ℤ → ℕ → List Origin → List ℕ
-plan_lines b name strong dynamic weak minutes case origins =
-    verdict_lines strong dynamic weak ++ rest_lines b name (strongest strong dynamic weak) minutes case origins
+-- whether a plan is weak
+abbrev pub is_yes : WeakAnswer → Bool
+is_yes Yes = true
+is_yes (No case length) = false
 
 -- an origin names a bound, jobs and a check of the book
 abbrev pub Within : Plain → Origin → Type 0
 Within b (Bound i) = i < length b.bounds
 Within b (Start j) = j < length b.jobs
 Within b (Check c j) = (c < checks b) × (j < length b.jobs)
-
--- the name of a job: `start` has its own, the others' stand in the text
-abbrev pub no_place : NamePlace
-no_place = record { byte = 0; length = 0 }
-
-abbrev pub name_at : List ℕ → NamePlace → List ℕ
-name_at text p = take p.length (drop p.byte text)
-
-abbrev pub name_of : List ℕ → List NamePlace → ℕ → List ℕ
-name_of text places zero = codes "start"
-name_of text places (suc j) = name_at text (slice_index_or places j no_place)
-
--- the names of the jobs below n stand in the text, none with more than 8 letters
-pub record NameIn (text : List ℕ) (p : NamePlace) : Type 0 where
-  pub within : p.byte + p.length ≤ length text
-  pub short : p.length ≤ 8
-
-pub record Named (text : List ℕ) (places : List NamePlace) (n : ℕ) : Type 0 where
-  pub enough : n ≤ suc (length places)
-  pub each : (j : ℕ) → suc j < n → NameIn text (slice_index_or places j no_place)

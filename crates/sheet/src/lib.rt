@@ -5,8 +5,6 @@ pub mod answer;
 pub mod grade;
 mod judge;
 mod lines;
-mod names;
-mod numbers;
 mod plan;
 pub mod refusal;
 pub mod verdict;

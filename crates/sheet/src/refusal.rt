@@ -5,7 +5,7 @@ ghost use Rattle.sheet.specs.declared.refusal.Refusal.TheVariants.{NoMemory as M
 use std::alloc::AllocError;
 
 // The output is under 8,192 bytes, or there is no memory for a book and a sheet.
-#[derive(Clone, Copy)]
+#[derive(Clone, Copy, Debug, PartialEq, Eq)]
 pub enum Refusal {
     OutputShort,
     NoMemory,

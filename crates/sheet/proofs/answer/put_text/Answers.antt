@@ -1,24 +1,21 @@
-use Rattle.std.proofs.Common.{length, refl, ap, inl, inr, arith, rules}
-use Rattle.book.specs.Held.{held, held_sound}
+use Rattle.std.proofs.Common.{◌≡◌, ◌≤◌, ◌++◌, length, OnOk, subst, refl, inl}
+use Rattle.std.proofs.lemmas.Result.{on_ok_weaker}
+use Rattle.book.specs.Held.{held}
+use Rattle.format.specs.Named.{name}
 use Rattle.sheet.specs.Sheet.{fault_line}
+use Rattle.sheet.proofs.Rows.{on_ok_both}
+use Rattle.sheet.proofs.Rests.{text_put}
 use Rattle.sheet.proofs.answer.put_text.Goals as goal
 
-pub overflow_sub-count : goal.overflow_sub-count
-overflow_sub-count c =
-    let some = (held_sound c.read.new.book).some in
-    omega (arith, some, ap length c.jobs.ensures)
-
-pub slice_bounds-places-end : goal.slice_bounds-places-end
-slice_bounds-places-end c =
-    let few = (held_sound c.read.new.book).few_jobs in
-    let jobs = ap length c.jobs.ensures in
-    let long = c.read.auto.names in
-    search rules
-
 pub returns-in-Ok : goal.returns-in-Ok
-returns-in-Ok c = let p = c.in_ok-put_plan-in-Ok.ensures in (p.0, inr (held c.read.new.book, _, p.1), p.2, p.3)
+returns-in-Ok c =
+    let names = c.in-Some.names in
+    on_ok_weaker c.put_plan.result (text_put c.args.text.now (held c.read.new.book) _ (name names) _ _ c.in-Some.ensures.names) c.put_plan.ensures
 
-pub returns-in-Fault : goal.returns-in-Fault
-returns-in-Fault c =
-    let f = c.in-Fault.fault in
-    (fault_line f, inl (f, refl), c.in_ok-put_fault-in-Fault.ensures.short, c.in_ok-put_fault-in-Fault.ensures.put)
+pub returns-in-Err-Fault : goal.returns-in-Err-Fault
+returns-in-Err-Fault c =
+    let r = c.put_fault.result in
+    let is = c.in-Err-Fault.fault-is in
+    let put = subst (λ f. OnOk r (c.put_fault.new.page ≡ c.args.page.now ++ fault_line f)) is c.put_fault.ensures.put in
+    let short = subst (λ f. OnOk r (length (fault_line f) ≤ 8192)) is c.put_fault.ensures.short in
+    on_ok_both r (λ p s. (fault_line c.in-Err-Fault.fault, inl (c.in-Err-Fault.fault, refl), s, p)) put short

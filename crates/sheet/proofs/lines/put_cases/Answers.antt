@@ -1,25 +1,36 @@
-use Rattle.std.proofs.Common.{◌≡◌, ◌+◌, ◌-◌, ◌*◌, length, take, drop, ap, arith, length-drop, length-take, rules}
-use Rattle.sheet.specs.Sheet.{name_of}
+use Rattle.std.proofs.Common.{◌≡◌, ◌<◌, ◌+◌, ◌-◌, ◌*◌, ◌≤◌, length, take, drop, ap, arith, length-drop, length-take}
+use Rattle.book.specs.Plain.{cases}
+use Rattle.book.specs.Held.{held, held_sound}
+use Rattle.grades.proofs.Limits.{few_cases}
+use Rattle.format.specs.Named.{name}
 use Rattle.sheet.proofs.Fits.{cases_fit}
 use Rattle.sheet.proofs.Rows.{row_fits, case_more}
 use Rattle.sheet.proofs.lines.put_cases.Goals as goal
 
-pub offset_bounds-minutes-from : goal.offset_bounds-minutes-from
-offset_bounds-minutes-from c = let r = row_fits c.loop-case.case c.args.cases c.args.jobs (omega arith) in search rules
-
-pub slice_bounds-put_case-end : goal.slice_bounds-put_case-end
-slice_bounds-put_case-end c = let r = row_fits c.loop-case.case c.args.cases c.args.jobs (omega arith) in search rules
-
 pub loop-case-preserved : goal.loop-case-preserved
 loop-case-preserved c =
     let s = c.loop-case.case in
-    let jobs = c.args.jobs in
+    let jobs = length c.jobs-jobs.result.now in
     let minutes = c.args.minutes.now in
-    let r = row_fits s c.args.cases jobs (omega arith) in
     let wide : (s * jobs + jobs) - s * jobs ≡ jobs = omega arith in
+    let count : jobs ≡ length (held c.args.plan.book.now).jobs = ap length c.jobs-jobs.ensures in
+    let b = held c.args.plan.book.now in
+    let last : s < cases b = omega (arith, c.cases-case-end.ensures) in
+    let fits : s * jobs + jobs ≤ length minutes = rw count (omega (arith, row_fits s (cases b) (length b.jobs) last, c.requires.room)) in
     let long : length (take ((s * jobs + jobs) - s * jobs) (drop (s * jobs) minutes)) ≡ jobs = simp (length-take, length-drop) (omega arith) in
-    let name = name_of c.args.text.now c.args.places.now in
-    let row = ap (λ n. take n (drop (s * jobs) minutes)) wide in (
-      case_more name jobs minutes s _ _ _ _ _ c.loop-case.invariant.0 row long c.in_ok-put_case.ensures.put,
-      cases_fit name jobs minutes s _ _ c.loop-case.invariant.1 row long c.in_ok-put_case.ensures.short,
-    )
+    let names = name c.args.plan.names in
+    let row = ap (λ n. take n (drop (s * jobs) minutes)) wide in
+    let put = c.in_ok-put_case.ensures in
+    let so_far = c.loop-case.invariant in
+    let few : jobs ≤ 20 = omega (arith, count, (held_sound c.args.plan.book.now).few_jobs) in
+    record {
+      put = case_more names jobs minutes s _ _ _ _ _ so_far.put row long put.put;
+      short = cases_fit names jobs minutes s _ _ few so_far.short row long put.short;
+    }
+
+pub returns-clause-short : goal.returns-clause-short
+returns-clause-short c =
+    let last : c.loop-case.case ≡ cases (held c.args.plan.book.now) = omega (arith, c.cases-case-end.ensures) in
+    let few = few_cases (held c.args.plan.book.now) (held_sound c.args.plan.book.now) in
+    let short = rw (last, ap length c.jobs-jobs.ensures) at c.loop-case.invariant.short in
+    omega (arith, short)

@@ -1,7 +1,7 @@
-use Rattle.std.proofs.Common.{length, get_or, pos, sym, arith, w32, SFits, rules}
+use Rattle.std.proofs.Common.{get_or, pos, w32, SFits, rules}
 use Rattle.std.proofs.lemmas.Int.{to_z-of_z}
-use Rattle.sheet.specs.Sheet.{name_of}
-use Rattle.sheet.proofs.Fits.{name_short, jobs_fit}
+use Rattle.format.specs.Named.{name}
+use Rattle.sheet.proofs.Fits.{jobs_fit}
 use Rattle.sheet.proofs.Rows.{one_more}
 use Rattle.sheet.proofs.lines.put_jobs.Goals as goal
 
@@ -11,8 +11,10 @@ loop-job-preserved c =
     let row = c.args.row.now in
     let f : SFits w32 (get_or row i (pos 0)) = search rules in
     let z = to_z-of_z w32 (get_or row i (pos 0)) f in
-    let name = name_of c.args.text.now c.args.places.now in
-    let put = c.in_ok-put_job.ensures.put in
-    let few = rw (sym c.name.ensures) at (name_short c.args.text.now c.args.places.now (length row) i c.requires.named (omega arith)) in
-    let short = c.in_ok-put_job.ensures.short few in
-    (one_more name row i _ _ _ _ _ c.loop-job.invariant.0 c.name.ensures z put, jobs_fit name row i _ _ c.loop-job.invariant.1 c.name.ensures z short)
+    let names = name c.args.names in
+    let put = c.in_ok-put_job.ensures in
+    let so_far = c.loop-job.invariant in
+    record {
+      put = one_more names row i _ _ _ _ _ so_far.put c.name.ensures.name z put.put;
+      short = jobs_fit names row i _ _ so_far.short c.name.ensures.name z put.short;
+    }

@@ -1,15 +1,10 @@
-use Rattle.std.proofs.Common.{arith}
-use Rattle.book.specs.Held.{held, held_sound}
-use Rattle.sheet.proofs.Judging.{size_fits}
+use Rattle.std.proofs.lemmas.Result.{on_ok_weaker}
+use Rattle.book.specs.Held.{held}
+use Rattle.format.specs.Named.{name}
+use Rattle.sheet.proofs.Rests.{sheet_put}
 use Rattle.sheet.proofs.plan.put_plan.Goals as goal
 
-pub judge-said-requires : goal.judge-said-requires
-judge-said-requires c = record { room = size_fits (held c.args.book.now) (held_sound c.args.book.now); list = omega arith }
-
-pub put_judged-requires : goal.put_judged-requires
-put_judged-requires c = record {
-  named = c.requires.named;
-  room = omega (arith, size_fits (held c.args.book.now) (held_sound c.args.book.now), c.judge-said.auto.minutes);
-  list = omega (arith, c.judge-said.auto.origins);
-  judged = c.judge-said.ensures;
-}
+pub returns : goal.returns
+returns c =
+    on_ok_weaker c.put_rest.result
+    (sheet_put (held c.args.plan.book.now) (name c.args.plan.names) _ _ _ _ _ _ c.judge-said.ensures c.in_ok-write.ensures.put) c.put_rest.ensures

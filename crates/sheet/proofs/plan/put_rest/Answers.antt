@@ -1,42 +1,62 @@
-use Rattle.std.proofs.Common.{◌≡◌, ℕ, ◌<◌, ◌≤◌, ◌++◌, length, Some, None, vec_items, Option, ap, ◌∙◌, subst, ap₂, arith}
-use Rattle.sheet.specs.declared.grade.Grade.{Grade}
-use Rattle.book.specs.Plain.{cases}
+use Rattle.std.proofs.Common.{refl, ◌≡◌, true, false, rules}
+use Rattle.std.proofs.lemmas.Result.{on_ok_weaker}
+use Rattle.sheet.proofs.Rows.{on_ok_both}
 use Rattle.book.specs.Held.{held, held_sound}
-use Rattle.grades.proofs.Limits.{few_cases}
-use Rattle.sheet.specs.Sheet.{table_lines, rest_lines, name_of}
-use Rattle.sheet.proofs.Fits.{loop_fits, name_short}
+use Rattle.verdicts.specs.declared.answers.WeakAnswer.TheVariants.{Yes, No}
+use Rattle.sheet.specs.declared.grade.Grade.TheVariants.{Strong, Dynamic, Weak}
+use Rattle.format.specs.Named.{name}
+use Rattle.sheet.proofs.Fits.{names_short}
+use Rattle.sheet.proofs.Rests.{table_rest, loop_rest, looping_of, looping_known}
 use Rattle.sheet.proofs.plan.put_rest.Goals as goal
 
-pub put_table-requires : goal.put_table-requires
-put_table-requires c =
-    let b = held c.args.book.now in
-    let sound = held_sound c.args.book.now in
-    let few : cases b ≤ 16 = few_cases b sound in
-    rw (c.jobs-jobs.ensures, c.cases.ensures) (record { named = c.requires.named; few = sound.few_jobs; below = few; enough = c.requires.enough })
-
-pub returns-in_ok-put_table-in-Some : goal.returns-in_ok-put_table-in-Some
-returns-in_ok-put_table-in-Some c =
-    let b = held c.args.book.now in
-    let name = name_of c.args.text.now c.args.places.now in
-    let minutes = c.args.minutes.now in
-    let chosen : Some c.in-Some.grade ≡ c.args.grade = cc c.in-Some.is in
-    let table = ap₂ (λ k n. table_lines c.in-Some.grade name k minutes n) (ap length c.jobs-jobs.ensures) c.cases.ensures in
-    let same = table ∙ ap (λ o. rest_lines b name o minutes c.args.case c.args.origins.now) chosen in
+pub put_loop-requires : goal.put_loop-requires
+put_loop-requires c =
+    let v = c.args.said in
+    let strong : v.strong ≡ false = search rules in
+    let dynamic : v.dynamic ≡ false = search rules in
+    let weak : v.weak ≡ No c.in-No.case c.in-No.length = search rules in
     record {
-      put = c.in_ok-put_table-in-Some.ensures.put ∙ ap (λ t. vec_items c.args.page.now ++ t) same;
-      short = subst (λ t. length t ≤ 6679) same c.in_ok-put_table-in-Some.ensures.short;
+      known = looping_known _ _ _ _ (looping_of (held c.args.plan.book.now) v _ _ c.in-No.case c.in-No.length c.requires.judged strong dynamic weak);
     }
 
-pub returns-in_ok-put_loop-in-None : goal.returns-in_ok-put_loop-in-None
-returns-in_ok-put_loop-in-None c =
-    let b = held c.args.book.now in
-    let name = name_of c.args.text.now c.args.places.now in
-    let origins = c.args.origins.now in
-    let names : (j : ℕ) → j < length b.jobs → length (name j) ≤ 8 = λ j h. name_short c.args.text.now c.args.places.now (length b.jobs) j c.requires.named h in
-    let fits = loop_fits b name c.args.case origins (held_sound c.args.book.now) names c.requires.known (omega (arith, c.requires.below)) c.requires.few in
-    let chosen : ◌≡◌ {A = Option Grade} None c.args.grade = cc c.in-None.is in
-    let same = ap (λ o. rest_lines b name o c.args.minutes.now c.args.case origins) chosen in
-    record {
-      put = c.in_ok-put_loop-in-None.ensures ∙ ap (λ t. vec_items c.args.page.now ++ t) same;
-      short = subst (λ t. length t ≤ 6679) same (omega (arith, fits));
-    }
+pub returns-in-true : goal.returns-in-true
+returns-in-true c =
+    let v = c.args.said in
+    let strong : v.strong ≡ true = search rules in
+    let shown = rw strong at c.requires.judged.shown in
+    on_ok_both c.put_table.result (table_rest (held c.args.plan.book.now) (name c.args.plan.names) v Strong c.args.minutes.now _ _ (rw strong refl) shown)
+    c.put_table.ensures.put c.put_table.ensures.short
+
+pub returns-in-true-2 : goal.returns-in-true-2
+returns-in-true-2 c =
+    let v = c.args.said in
+    let strong : v.strong ≡ false = search rules in
+    let dynamic : v.dynamic ≡ true = search rules in
+    let shown = rw (strong, dynamic) at c.requires.judged.shown in
+    let put = c.put_table-in-true-2.ensures in
+    on_ok_both c.put_table-in-true-2.result
+    (table_rest (held c.args.plan.book.now) (name c.args.plan.names) v Dynamic c.args.minutes.now _ _ (rw (strong, dynamic) refl) shown) put.put put.short
+
+pub returns-in-Yes : goal.returns-in-Yes
+returns-in-Yes c =
+    let v = c.args.said in
+    let strong : v.strong ≡ false = search rules in
+    let dynamic : v.dynamic ≡ false = search rules in
+    let weak : v.weak ≡ Yes = search rules in
+    let shown = rw (strong, dynamic, weak) at c.requires.judged.shown in
+    let put = c.put_table-in-Yes.ensures in
+    on_ok_both c.put_table-in-Yes.result
+    (table_rest (held c.args.plan.book.now) (name c.args.plan.names) v Weak c.args.minutes.now _ _ (rw (strong, dynamic, weak) refl) shown) put.put put.short
+
+pub returns-in-No : goal.returns-in-No
+returns-in-No c =
+    let b = held c.args.plan.book.now in
+    let v = c.args.said in
+    let names = c.args.plan.names in
+    let strong : v.strong ≡ false = search rules in
+    let dynamic : v.dynamic ≡ false = search rules in
+    let weak : v.weak ≡ No c.in-No.case c.in-No.length = search rules in
+    let looping = looping_of b v _ c.args.origins.now c.in-No.case c.in-No.length c.requires.judged strong dynamic weak in
+    on_ok_weaker c.put_loop.result
+    (loop_rest b (name names) v c.args.origins.now c.in-No.case c.in-No.length _ _ (held_sound c.args.plan.book.now)
+    (names_short names.text.now names.places.now names.all_in) strong dynamic weak looping) c.put_loop.ensures
