@@ -1,5 +1,5 @@
 -- What a run keeps in its type from one call to the next.
-use Rattle.std.proofs.Common.{◌≡◌, ℕ, ◌+◌, ◌-◌, ◌*◌, ◌<◌, ◌≤◌, List, ◌∷◌, length, take, drop, Some, None, Option, sym, ap, ◌∙◌, subst}
+use Rattle.std.proofs.Common.{◌≡◌, ℕ, ◌+◌, ◌-◌, ◌*◌, ◌<◌, ◌≤◌, List, ◌∷◌, length, take, drop, Some, None, Option, refl, sym, ap, ◌∙◌, subst}
 use Rattle.std.proofs.Common.{arith, length-drop, length-take}
 use mathlib.Core.Logic.{∥∥₁_elim}
 use Rattle.book.specs.declared.parts.Job.{Job}
@@ -11,7 +11,7 @@ use Rattle.walks.specs.declared.parts.Report.{Report}
 use Rattle.walks.specs.declared.parts.Event.{Event}
 use Rattle.walks.specs.declared.parts.Event.TheVariants.{Told, Reported}
 use Rattle.walks.specs.Logs.{Lawful, NoneAwaited, Asked, Ended, last_minute}
-use Rattle.walks.specs.Standing.{yes_set, heard_set, time, Begins, Over, First}
+use Rattle.walks.specs.Standing.{yes_set, heard_set, time, First, Opens}
 use Rattle.walks.specs.Rows.{FirstFrom}
 use Rattle.walks.specs.Sought.{LowestSought}
 use Rattle.walks.proofs.Asks.{asked_for, none_asked}
@@ -19,13 +19,16 @@ use Rattle.walks.proofs.Laws.{lawful_keep_law, ended_are_whole}
 use Rattle.walks.proofs.Reports.{yes_case}
 use Rattle.std.proofs.lemmas.List.{length-reverse}
 use Rattle.walks.proofs.Readied.{row_fits, first_with}
-use Rattle.walks.proofs.Single.{lawful_single, idle_single, asked_single, ended_single}
+use Rattle.walks.proofs.Single.{lawful_single, ended_single}
 use Rattle.walks.proofs.Steps.{tells, ends, few_events, last_of}
 use Rattle.runs.specs.declared.log.Log.{Log}
 use Rattle.runs.specs.declared.sheet.RunSheet.{RunSheet}
+use Rattle.runs.specs.declared.state.Run.{Run}
+use Rattle.runs.specs.declared.state.Walking.{Walking}
+use Rattle.runs.specs.declared.state.Asking.{Asking}
 use Rattle.runs.specs.Recorded.{recorded}
 use Rattle.runs.specs.Sheets.{plan, times}
-use Rattle.runs.specs.Steps.{Ran}
+use Rattle.runs.specs.Steps.{Keeps, Ran}
 
 -- a case's row lies within the sheet's minutes
 pub within : (sheet : RunSheet) (jobs : List Job) (case : ℕ) → jobs ≡ (plan sheet).jobs → Case (plan sheet) case → case * length jobs + length jobs ≤ 320
@@ -50,76 +53,80 @@ first_in sheet jobs case e h from r f =
 pub short : (log : Log) → length (recorded log) ≤ 24
 short log = let f = log.few in simp length-reverse f
 
-module _ (sheet : RunSheet) (log : Log) where
+-- what a run carries
+module _ (run : Run) where
   -- the check to be asked for, by the sets that the log keeps
-  pub asked_next : (c : ℕ) → LowestSought (plan sheet) log.just log.heard (Some c) → Asked (plan sheet) (recorded log) c
+  pub asked_next : (c : ℕ) → LowestSought (plan run.sheet.now) run.log.just run.log.heard (Some c) → Asked (plan run.sheet.now) (recorded run.log) c
   asked_next c h =
-      asked_for (plan sheet) (recorded log) c
-      (subst (λ x. LowestSought (plan sheet) x (heard_set (recorded log)) (Some c)) log.just_is
-      (subst (λ x. LowestSought (plan sheet) log.just x (Some c)) log.heard_is h))
+      asked_for (plan run.sheet.now) (recorded run.log) c
+      (subst (λ x. LowestSought (plan run.sheet.now) x (heard_set (recorded run.log)) (Some c)) run.log.just_is
+      (subst (λ x. LowestSought (plan run.sheet.now) run.log.just x (Some c)) run.log.heard_is h))
 
-  pub none_next : LowestSought (plan sheet) log.just log.heard None → NoneAwaited (plan sheet) (recorded log)
+  pub none_next : LowestSought (plan run.sheet.now) run.log.just run.log.heard None → NoneAwaited (plan run.sheet.now) (recorded run.log)
   none_next h =
-      none_asked (plan sheet) (recorded log)
-      (subst (λ x. LowestSought (plan sheet) x (heard_set (recorded log)) None) log.just_is
-      (subst (λ x. LowestSought (plan sheet) log.just x None) log.heard_is h))
+      none_asked (plan run.sheet.now) (recorded run.log)
+      (subst (λ x. LowestSought (plan run.sheet.now) x (heard_set (recorded run.log)) None) run.log.just_is
+      (subst (λ x. LowestSought (plan run.sheet.now) run.log.just x None) run.log.heard_is h))
 
-  pub asked_still : (c : ℕ) → ∥ Asked (plan sheet) (recorded log) c ∥₁ → Asked (plan sheet) (recorded log) c
-  asked_still c a = ∥∥₁_elim a (asked_single (plan sheet) (recorded log) c) (λ x. x)
+  pub keeps : Keeps run.sheet.now (recorded run.log) run
+  keeps = record { on_sheet = refl; has_log = refl; law = lawful_keep_law (plan run.sheet.now) (times run.sheet.now) (recorded run.log) run.law }
 
-  pub ended_still : ∥ Ended (plan sheet) (recorded log) ∥₁ → Ended (plan sheet) (recorded log)
-  ended_still e = ∥∥₁_elim e (ended_single (plan sheet) (recorded log)) (λ x. x)
+  -- there is room for one event more
+  pub room : (e : Event) → Lawful (plan run.sheet.now) (times run.sheet.now) (e ∷ recorded run.log) → length (recorded run.log) < 24
+  room e l =
+      let f = few_events (plan run.sheet.now) (times run.sheet.now) (e ∷ recorded run.log) l in
+      let j = (held_sound run.sheet.now.book).few_jobs in
+      let c = (held_sound run.sheet.now.book).few_checks in
+      omega arith
 
-  module _ (law : ∥ Lawful (plan sheet) (times sheet) (recorded log) ∥₁) where
-    pub lawful : Lawful (plan sheet) (times sheet) (recorded log)
-    lawful = ∥∥₁_elim law (lawful_single (plan sheet) (times sheet) (recorded log)) (λ l. l)
+  -- a run that is at its end
+  pub ran : Ended (plan run.sheet.now) (recorded run.log) → Ran run.sheet.now (recorded run.log)
+  ran e = record {
+    law = lawful_keep_law (plan run.sheet.now) (times run.sheet.now) (recorded run.log) run.law;
+    ended = e;
+    whole = ended_are_whole (plan run.sheet.now) (times run.sheet.now) (recorded run.log) run.law e;
+  }
 
-    -- the checks reported yes are a case
-    pub leading : Case (plan sheet) log.yes
-    leading = subst (λ s. Case (plan sheet) s) (sym log.yes_is) (yes_case (plan sheet) (times sheet) (recorded log) lawful)
+  -- something was told by then: `start`, at least
+  pub last_told : Ended (plan run.sheet.now) (recorded run.log) → (m : ℕ) × (last_minute (recorded run.log) ≡ Some m) × (time (recorded run.log) ≡ m + 1)
+  last_told e = last_of (plan run.sheet.now) (held_sound run.sheet.now.book) (times run.sheet.now) (recorded run.log) run.law e
 
-    -- there is room for one event more
-    pub room : (e : Event) → Lawful (plan sheet) (times sheet) (e ∷ recorded log) → length (recorded log) < 24
-    room e l =
-        let f = few_events (plan sheet) (times sheet) (e ∷ recorded log) l in
-        let j = (held_sound sheet.book).few_jobs in
-        let c = (held_sound sheet.book).few_checks in
-        omega arith
+-- what comes first in the leading case, that of the checks reported yes
+module _ (r : Walking) where
+  leading : Case (plan r.run.sheet.now) r.run.log.yes
+  leading = subst (λ s. Case (plan r.run.sheet.now) s) (sym r.run.log.yes_is) (yes_case (plan r.run.sheet.now) (times r.run.sheet.now) (recorded r.run.log) r.run.law)
 
-    module _ (idle : ∥ NoneAwaited (plan sheet) (recorded log) ∥₁) where
-      pub none_awaited : NoneAwaited (plan sheet) (recorded log)
-      none_awaited = ∥∥₁_elim idle (idle_single (plan sheet) (recorded log)) (λ i. i)
+  first_come : (next : Option Telling) → Opens (plan r.run.sheet.now) (times r.run.sheet.now) r.run.log.yes r.run.log.time next →
+      First (plan r.run.sheet.now) (times r.run.sheet.now) (yes_set (recorded r.run.log)) (time (recorded r.run.log)) next
+  first_come next o =
+      subst (λ s. First (plan r.run.sheet.now) (times r.run.sheet.now) s (time (recorded r.run.log)) next) r.run.log.yes_is
+      (subst (λ f. First (plan r.run.sheet.now) (times r.run.sheet.now) r.run.log.yes f next) r.run.log.time_is (o leading))
 
-      -- the log with what comes first in the leading case
-      pub told : (t : Telling) → Begins (plan sheet) (times sheet) log.yes log.time t → Lawful (plan sheet) (times sheet) (Told t ∷ recorded log)
-      told t b =
-          let there : Begins (plan sheet) (times sheet) (yes_set (recorded log)) (time (recorded log)) t =
-          subst (λ s. Begins (plan sheet) (times sheet) s (time (recorded log)) t) log.yes_is
-          (subst (λ f. Begins (plan sheet) (times sheet) log.yes f t) log.time_is b) in
-          ∥∥₁_elim sheet.earliest (lawful_single (plan sheet) (times sheet) (Told t ∷ recorded log)) (λ e.
-          (lawful, (none_awaited, tells runs_alike (plan sheet) (held_sound sheet.book) (times sheet) e.good (recorded log) lawful none_awaited t there)))
+  module _ (next : Option Telling) (opens : Opens (plan r.run.sheet.now) (times r.run.sheet.now) r.run.log.yes r.run.log.time next) where
+    -- it is right to tell it
+    pub told : (t : Telling) → next ≡ Some t → Lawful (plan r.run.sheet.now) (times r.run.sheet.now) (Told t ∷ recorded r.run.log)
+    told t is =
+        let first = subst (First (plan r.run.sheet.now) (times r.run.sheet.now) (yes_set (recorded r.run.log)) (time (recorded r.run.log))) is
+        (first_come next opens) in
+        ∥∥₁_elim r.run.sheet.now.earliest (lawful_single (plan r.run.sheet.now) (times r.run.sheet.now) (Told t ∷ recorded r.run.log)) (λ e. (
+          r.run.law,
+          (
+            r.idle,
+            tells runs_alike (plan r.run.sheet.now) (held_sound r.run.sheet.now.book) (times r.run.sheet.now) e.good
+                (recorded r.run.log) r.run.law r.idle t first,
+          ),
+        ))
 
-      -- with nothing more to come in the leading case the run is at its end
-      pub ended : Over (plan sheet) (times sheet) log.yes log.time → Ended (plan sheet) (recorded log)
-      ended o =
-          let there : Over (plan sheet) (times sheet) (yes_set (recorded log)) (time (recorded log)) =
-          subst (λ s. Over (plan sheet) (times sheet) s (time (recorded log))) log.yes_is
-          (subst (λ f. Over (plan sheet) (times sheet) log.yes f) log.time_is o) in
-          ∥∥₁_elim sheet.earliest (ended_single (plan sheet) (recorded log)) (λ e.
-          ends runs_alike (plan sheet) (held_sound sheet.book) (times sheet) e.good (recorded log) lawful none_awaited there)
+    -- with nothing more to come the run is at its end
+    pub ended : next ≡ None → Ended (plan r.run.sheet.now) (recorded r.run.log)
+    ended is =
+        let over = subst (First (plan r.run.sheet.now) (times r.run.sheet.now) (yes_set (recorded r.run.log)) (time (recorded r.run.log))) is
+        (first_come next opens) in
+        ∥∥₁_elim r.run.sheet.now.earliest (ended_single (plan r.run.sheet.now) (recorded r.run.log)) (λ e.
+        ends runs_alike (plan r.run.sheet.now) (held_sound r.run.sheet.now.book) (times r.run.sheet.now) e.good
+        (recorded r.run.log) r.run.law r.idle over)
 
-    -- the log with the outcome of the check asked for
-    pub reported : (r : Report) → ∥ Asked (plan sheet) (recorded log) r.check ∥₁ → Lawful (plan sheet) (times sheet) (Reported r ∷ recorded log)
-    reported r a = (lawful, asked_still r.check a)
-
-    -- a run that is at its end
-    pub ran : Ended (plan sheet) (recorded log) → Ran sheet (recorded log)
-    ran e = record {
-      law = lawful_keep_law (plan sheet) (times sheet) (recorded log) lawful;
-      ended = e;
-      whole = ended_are_whole (plan sheet) (times sheet) (recorded log) lawful e;
-    }
-
-    -- something was told by then: `start`, at least
-    pub last_told : Ended (plan sheet) (recorded log) → (m : ℕ) × (last_minute (recorded log) ≡ Some m) × (time (recorded log) ≡ m + 1)
-    last_told e = last_of (plan sheet) (held_sound sheet.book) (times sheet) (recorded log) lawful e
+-- a report of the check asked for is right
+pub heard : (r : Asking) (report : Report) → report.check ≡ r.check →
+    Lawful (plan r.run.sheet.now) (times r.run.sheet.now) (Reported report ∷ recorded r.run.log)
+heard r report e = (r.run.law, subst (λ c. Asked (plan r.run.sheet.now) (recorded r.run.log) c) (sym e) r.asks)

@@ -1,20 +1,19 @@
 -- What the walk of a whole run promises.
-use Rattle.std.specs.Prelude.{◌≡◌, ℕ, ◌<◌, ◌≤◌, Bool, List, [], ◌∷◌, ◌++◌, length, take}
-use Rattle.book.specs.Plain.{asking}
+use Rattle.std.specs.Prelude.{◌≡◌, ℕ, ◌<◌, ◌≤◌, Bool, List, [], ◌∷◌, ◌++◌, length, take, Ok, Err, Result}
+use Rattle.std.specs.Borrow.{Bor}
 use Rattle.walks.specs.declared.parts.Event.{Event}
 use Rattle.walks.specs.declared.parts.Event.TheVariants.{Told, Reported}
-use Rattle.walks.specs.Logs.{Asked}
 use Rattle.walks.specs.Law.{Law}
-use Rattle.runs.specs.declared.ending.Ending.{Ending}
-use Rattle.runs.specs.declared.ending.Ending.TheVariants.{Ended, Unanswered}
 use Rattle.runs.specs.declared.ending.Walked.{Walked}
-use Rattle.runs.specs.declared.ending.Given.{Given}
-use Rattle.runs.specs.declared.ending.Given.TheVariants.{Goes, Lacks}
+use Rattle.runs.specs.declared.ending.Lacking.{Lacking}
 use Rattle.runs.specs.declared.sheet.RunSheet.{RunSheet}
+use Rattle.runs.specs.declared.state.Walking.{Walking}
+use Rattle.runs.specs.declared.state.Finished.{Finished}
 use Rattle.runs.specs.declared.state.Check.{Check}
+use Rattle.runs.specs.declared.state.Closed.{Closed}
 use Rattle.runs.specs.Recorded.{recorded}
 use Rattle.runs.specs.Sheets.{plan, times}
-use Rattle.runs.specs.Steps.{Ran, Closes}
+use Rattle.runs.specs.Steps.{Ran, AsksFor, Closes}
 
 -- the outcomes reported, in the order in which they came
 abbrev pub outcomes_of : List Event → List Bool
@@ -22,22 +21,31 @@ outcomes_of [] = []
 outcomes_of (Told t ∷ log) = outcomes_of log
 outcomes_of (Reported r ∷ log) = outcomes_of log ++ (r.yes ∷ [])
 
--- a run with this log asks for this check, the lowest one awaited
-pub record AsksFor (sheet : RunSheet) (log : List Event) (c : Check) : Type 0 where
-  pub job : c.job ≡ asking (plan sheet) c.number
-  pub asks : Asked (plan sheet) log c.number
+-- a run with this log keeps the law, has used all outcomes, and asks for one more check
+pub record Lacks (sheet : RunSheet) (outcomes : List Bool) (r : Lacking) : Type 0 where
+  pub law : Law (plan sheet) (times sheet) (recorded r.log)
+  pub heard : outcomes_of (recorded r.log) ≡ outcomes
+  pub asks : AsksFor sheet (recorded r.log) r.check
 
--- a run was given outcomes: it walks on with so many of them used, or lacks one more
-abbrev pub Gives : RunSheet → List Bool → List Event → Given → Type 0
-Gives sheet outcomes log (Goes r used) =
-    (r.sheet.now ≡ sheet) × (used ≤ length outcomes) × (outcomes_of (recorded r.log) ≡ take used outcomes) × (length log < length (recorded r.log))
-Gives sheet outcomes log (Lacks l c) =
-    Law (plan sheet) (times sheet) (recorded l) × (outcomes_of (recorded l) ≡ outcomes) × AsksFor sheet (recorded l) c
+-- a run with this log was given outcomes: it walks on with some of them left and a longer log, or lacks one more
+abbrev pub Gives : RunSheet → List Event → List Bool → Result (Walking × Bor (List Bool)) Lacking → Type 0
+Gives sheet log outcomes (Ok (r, left)) =
+    (r.run.sheet.now ≡ sheet)
+    × (outcomes_of (recorded r.run.log) ++ left.now ≡ outcomes_of log ++ outcomes)
+    × (length log < length (recorded r.run.log))
+Gives sheet log outcomes (Err lacking) = Lacks sheet (outcomes_of log ++ outcomes) lacking
+
+-- a run with this log went on from outcomes to its end, with some of them left, or lacks one more
+abbrev pub Goes : RunSheet → List Event → List Bool → Result (Finished × Bor (List Bool)) Lacking → Type 0
+Goes sheet log outcomes (Ok (r, left)) =
+    (r.run.sheet.now ≡ sheet)
+    × (outcomes_of (recorded r.run.log) ++ left.now ≡ outcomes_of log ++ outcomes)
+Goes sheet log outcomes (Err lacking) = Lacks sheet (outcomes_of log ++ outcomes) lacking
 
 -- how a run ended: it was closed, or all outcomes were used and it asks for one more check
-abbrev pub EndsSo : RunSheet → List Bool → List Event → ℕ → Ending → Type 0
-EndsSo sheet outcomes log used (Ended c) = Ran sheet log × Closes log c
-EndsSo sheet outcomes log used (Unanswered c) = AsksFor sheet log c × (used ≡ length outcomes)
+abbrev pub EndsSo : RunSheet → List Bool → List Event → ℕ → Result Closed Check → Type 0
+EndsSo sheet outcomes log used (Ok closed) = Ran sheet log × Closes log closed
+EndsSo sheet outcomes log used (Err check) = AsksFor sheet log check × (used ≡ length outcomes)
 
 -- a walk keeps the law, its reports are the outcomes in their order, as many as it used, and it ended so
 pub record WalksSo (sheet : RunSheet) (outcomes : List Bool) (r : Walked) : Type 0 where

@@ -1,24 +1,17 @@
 // How the walk of a whole run ends.
 use crate::log::Log;
-use crate::state::{Check, Closed, Walking};
+use crate::state::{Check, Closed};
 
-// A run that was closed, or one that asks for a check with no outcome left for it.
-#[derive(Clone, Copy)]
-pub enum Ending {
-    Ended(Closed),
-    Unanswered(Check),
-}
-
-// The log of a run, how it ended, and how many outcomes it used.
+// The log of a run, how it ended, and how many outcomes it used. It ended closed, or it asks for a check with no outcome left for it.
 #[derive(Drop)]
 pub struct Walked {
     pub log: Log,
-    pub ending: Ending,
+    pub ending: Result<Closed, Check>,
     pub used: usize,
 }
 
-// A run that was given its outcomes and walks on, with the number of outcomes used; or the log of one that lacks an outcome.
-pub(crate) enum Given<'a> {
-    Goes(Walking<'a>, usize),
-    Lacks(Log, Check),
+// The log of a run that lacks an outcome, and the check that it asks for.
+pub(crate) struct Lacking {
+    pub(crate) log: Log,
+    pub(crate) check: Check,
 }

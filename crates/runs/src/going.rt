@@ -11,7 +11,7 @@ ghost use Rattle.runs.specs.Steps.{Walks, Steps, Answers, AskedOf, Closes, Ran, 
 use crate::asks::lowest_sought;
 use crate::log::Log;
 use crate::sheet::RunSheet;
-use crate::state::{Answered, Asking, Check, Closed, Finished, Stepped, Walking};
+use crate::state::{Answered, Asking, Check, Closed, Finished, Run, Stepped, Walking};
 use walks::parts::{Report, Telling};
 
 impl RunSheet {
@@ -20,8 +20,22 @@ impl RunSheet {
         ensures { Walks self.now [] result }
     {
         Walking {
-            sheet: self,
-            log: Log::new(),
+            run: Run {
+                sheet: self,
+                log: Log::new(),
+            },
+        }
+    }
+}
+
+impl<'a> Run<'a> {
+    // Asks for the lowest check awaited, or walks on.
+    fn go_on(self) -> Answered<'a>
+        ensures { Answers self.entry.sheet.now (recorded self.entry.log) result }
+    {
+        match lowest_sought(&self.sheet.book, self.log.just, self.log.heard) {
+            None => Answered::Walks(Walking { run: self }),
+            Some(check) => Answered::Asks(Asking { run: self, check }),
         }
     }
 }
@@ -29,75 +43,54 @@ impl RunSheet {
 impl<'a> Walking<'a> {
     // Tells what comes next, or finishes with nothing more to come.
     fn take(self, next: Option<Telling>) -> Stepped<'a>
-        requires next { Opens (plan self.sheet.now) (times self.sheet.now) self.log.yes self.log.time next }
-        ensures { Steps self.entry.sheet.now (recorded self.entry.log) result }
+        requires next { Opens (plan self.run.sheet.now) (times self.run.sheet.now) self.run.log.yes self.run.log.time next }
+        ensures { Steps self.entry.run.sheet.now (recorded self.entry.run.log) result }
     {
-        let Walking { sheet, mut log } = self;
-        match next {
-            None => Stepped::Ends(Finished { sheet, log }),
-            Some(telling) => {
-                log.tell(telling);
-                match lowest_sought(&sheet.book, log.just, log.heard) {
-                    None => Stepped::Walks(telling, Walking { sheet, log }),
-                    Some(check) => Stepped::Asks(telling, Asking { sheet, log, check }),
-                }
-            }
+        let Walking { mut run } = self;
+        let Some(telling) = next else {
+            return Stepped::Ends(Finished { run });
+        };
+        run.log.tell(telling);
+        match run.go_on() {
+            Answered::Walks(walking) => Stepped::Walks(telling, walking),
+            Answered::Asks(asking) => Stepped::Asks(telling, asking),
         }
     }
 
     // Goes to the next minute that has a job, and tells that minute and all jobs due in it; with no job left the run is finished. The
     // case of the checks reported yes leads: every case that agrees with the reports has the same jobs next.
     pub fn step(self) -> Stepped<'a>
-        ensures { Steps self.entry.sheet.now (recorded self.entry.log) result }
+        ensures { Steps self.entry.run.sheet.now (recorded self.entry.run.log) result }
     {
-        let next = self.sheet.first(self.log.yes, self.log.time);
+        let next = self.run.sheet.first(self.run.log.yes, self.run.log.time);
         self.take(next)
     }
 }
 
 impl<'a> Asking<'a> {
-    // The job of the check that is asked for.
-    fn job(&self) -> usize
-        ensures job { result ≡ asking (plan self.now.sheet.now) self.now.check }
-        ensures asks { Asked (plan self.now.sheet.now) (recorded self.now.log) self.now.check }
-    {
-        match self.sheet.book.check_job(self.check) {
-            None => 0,
-            Some(job) => job,
-        }
-    }
-
     // The check that is asked for.
     pub fn check(&self) -> Check
         ensures { AskedOf self.now result }
     {
-        let job = self.job();
         Check {
             number: self.check,
-            job,
+            job: self.run.sheet.book.check_job(self.check).unwrap(),
         }
     }
 
     // Records the outcome, and asks for the next check or walks on.
     fn hear(self, report: Report) -> Answered<'a>
         requires asked { report.check ≡ self.check }
-        ensures { Answers self.entry.sheet.now (Reported report ∷ recorded self.entry.log) result }
+        ensures { Answers self.entry.run.sheet.now (Reported report ∷ recorded self.entry.run.log) result }
     {
-        let Asking {
-            sheet,
-            mut log,
-            check: _,
-        } = self;
-        log.report(report);
-        match lowest_sought(&sheet.book, log.just, log.heard) {
-            None => Answered::Walks(Walking { sheet, log }),
-            Some(check) => Answered::Asks(Asking { sheet, log, check }),
-        }
+        let Asking { mut run, check: _ } = self;
+        run.log.report(report);
+        run.go_on()
     }
 
     // Takes the outcome of the check that is asked for; then the next check is asked for, or the run walks on.
     pub fn report(self, yes: bool) -> Answered<'a>
-        ensures { Answers self.entry.sheet.now (reported self.entry.check yes ∷ recorded self.entry.log) result }
+        ensures { Answers self.entry.run.sheet.now (reported self.entry.check yes ∷ recorded self.entry.run.log) result }
     {
         let check = self.check;
         self.hear(Report { check, yes })
@@ -107,22 +100,24 @@ impl<'a> Asking<'a> {
 impl<'a> Finished<'a> {
     // How many jobs were told, and the last minute told.
     pub(crate) fn numbers(&self) -> Closed
-        ensures numbers { Closes (recorded self.now.log) result }
-        ensures run { Ran self.now.sheet.now (recorded self.now.log) }
+        ensures numbers { Closes (recorded self.now.run.log) result }
+        ensures run { Ran self.now.run.sheet.now (recorded self.now.run.log) }
     {
         Closed {
-            jobs: self.log.told.count_ones(),
-            last: (self.log.time - 1) as u32,
+            jobs: self.run.log.told.count_ones(),
+            last: (self.run.log.time - 1) as u32,
         }
     }
 
     // Closes the run, and answers how many jobs were told and the last minute told.
     pub fn close(self) -> Closed
-        ensures numbers { Closes (recorded self.entry.log) result }
-        ensures run { Ran self.entry.sheet.now (recorded self.entry.log) }
+        ensures numbers { Closes (recorded self.entry.run.log) result }
+        ensures run { Ran self.entry.run.sheet.now (recorded self.entry.run.log) }
     {
         let closed = self.numbers();
-        let Finished { sheet: _, log: _ } = self;
+        let Finished {
+            run: Run { sheet: _, log: _ },
+        } = self;
         closed
     }
 }

@@ -1,39 +1,50 @@
 // Walking a whole run from a list of outcomes.
-ghost use Rattle.std.specs.Prelude.{◌≡◌, ◌≤◌, length, take};
+ghost use Rattle.std.specs.Prelude.{◌≡◌, ◌++◌};
 ghost use Rattle.runs.specs.Recorded.{recorded};
-ghost use Rattle.runs.specs.Walks.{outcomes_of, Gives, WalksSo};
+ghost use Rattle.runs.specs.Walks.{outcomes_of, Gives, Goes, WalksSo};
 
-use crate::ending::{Ending, Given, Walked};
+use crate::ending::{Lacking, Walked};
 use crate::sheet::RunSheet;
-use crate::state::{Answered, Asking, Finished, Stepped};
+use crate::state::{Answered, Asking, Finished, Run, Stepped, Walking};
 
-// Gives a run that asks its outcomes, until it walks on or no outcome is left.
-fn give<'a>(asking: Asking<'a>, outcomes: &[bool], used: usize) -> Given<'a>
-    requires within { used ≤ length outcomes.now }
-    requires heard { outcomes_of (recorded asking.log) ≡ take used outcomes.now }
-    ensures { Gives asking.entry.sheet.now outcomes.now (recorded asking.entry.log) result }
+// Gives a run that asks its outcomes, until it walks on or no outcome is left; answers the run with the outcomes left.
+fn give<'a, 'b>(
+    asking: Asking<'a>,
+    outcomes: &'b [bool],
+) -> Result<(Walking<'a>, &'b [bool]), Lacking>
+    ensures { Gives asking.entry.run.sheet.now (recorded asking.entry.run.log) outcomes.now result }
 {
     let mut run = asking;
-    let mut at = used;
-    loop {
-        if at == outcomes.len() {
-            let check = run.check();
-            let Asking {
-                sheet: _,
-                log,
-                check: _,
-            } = run;
-            return Given::Lacks(log, check);
+    let mut left = outcomes;
+    while let Some((yes, rest)) = left.split_first() {
+        match run.report(*yes) {
+            Answered::Walks(walking) => return Ok((walking, rest)),
+            Answered::Asks(again) => run = again,
         }
-        let yes = outcomes[at];
-        at += 1;
-        match run.report(yes) {
-            Answered::Walks(walking) => {
-                return Given::Goes(walking, at);
-            }
-            Answered::Asks(again) => {
-                run = again;
-            }
+        left = rest;
+    }
+    let check = run.check();
+    let Asking {
+        run: Run { sheet: _, log },
+        check: _,
+    } = run;
+    Err(Lacking { log, check })
+}
+
+// Takes a run to its end, and answers it with the outcomes left.
+fn go<'a, 'b>(
+    walking: Walking<'a>,
+    outcomes: &'b [bool],
+) -> Result<(Finished<'a>, &'b [bool]), Lacking>
+    ensures { Goes walking.entry.run.sheet.now (recorded walking.entry.run.log) outcomes.now result }
+{
+    let mut run = walking;
+    let mut left = outcomes;
+    loop {
+        match run.step() {
+            Stepped::Walks(_, walking) => run = walking,
+            Stepped::Asks(_, asking) => (run, left) = give(asking, left)?,
+            Stepped::Ends(finished) => return Ok((finished, left)),
         }
     }
 }
@@ -42,35 +53,22 @@ fn give<'a>(asking: Asking<'a>, outcomes: &[bool], used: usize) -> Given<'a>
 pub fn walk(sheet: &RunSheet, outcomes: &[bool]) -> Walked
     ensures { WalksSo sheet.now outcomes.now result }
 {
-    let mut run = sheet.set_out();
-    let mut used = 0;
-    loop {
-        match run.step() {
-            Stepped::Walks(_, walking) => {
-                run = walking;
-            }
-            Stepped::Asks(_, asking) => match give(asking, outcomes, used) {
-                Given::Goes(walking, at) => {
-                    run = walking;
-                    used = at;
-                }
-                Given::Lacks(log, check) => {
-                    return Walked {
-                        log,
-                        ending: Ending::Unanswered(check),
-                        used: outcomes.len(),
-                    };
-                }
-            },
-            Stepped::Ends(finished) => {
-                let closed = finished.numbers();
-                let Finished { sheet: _, log } = finished;
-                return Walked {
-                    log,
-                    ending: Ending::Ended(closed),
-                    used,
-                };
+    match go(sheet.set_out(), outcomes) {
+        Ok((finished, left)) => {
+            let closed = finished.numbers();
+            let Finished {
+                run: Run { sheet: _, log },
+            } = finished;
+            Walked {
+                log,
+                ending: Ok(closed),
+                used: outcomes.len() - left.len(),
             }
         }
+        Err(Lacking { log, check }) => Walked {
+            log,
+            ending: Err(check),
+            used: outcomes.len(),
+        },
     }
 }

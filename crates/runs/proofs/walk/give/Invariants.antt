@@ -1,14 +1,14 @@
-use Rattle.std.proofs.Common.{◌≡◌, ◌-◌, ◌≤◌, length, take}
+use Rattle.std.proofs.Common.{◌≡◌, ◌++◌, ◌≤◌, length}
 use Rattle.runs.specs.Recorded.{recorded}
 use Rattle.runs.specs.Walks.{outcomes_of}
 use Rattle.runs.proofs.walk.give.Given as goal
 
-abbrev pub invariant-loop-at : goal.invariant-loop-at
-invariant-loop-at l =
-    (l.run.sheet.now ≡ l.initial.run.sheet.now)
-    × (l.at ≤ length l.outcomes)
-    × (outcomes_of (recorded l.run.log) ≡ take l.at l.outcomes)
-    × (length (recorded l.initial.run.log) ≤ length (recorded l.run.log))
+abbrev pub invariant-loop-yes : goal.invariant-loop-yes
+invariant-loop-yes l = record {
+  on_sheet : l.run.run.sheet.now ≡ l.initial.run.run.sheet.now;
+  heard : outcomes_of (recorded l.run.run.log) ++ l.left ≡ outcomes_of (recorded l.initial.run.run.log) ++ l.outcomes;
+  longer : length (recorded l.initial.run.run.log) ≤ length (recorded l.run.run.log);
+}
 
-abbrev pub decreases-loop-at : goal.decreases-loop-at
-decreases-loop-at l = length l.outcomes - l.at
+abbrev pub decreases-loop-yes : goal.decreases-loop-yes
+decreases-loop-yes l = length l.left

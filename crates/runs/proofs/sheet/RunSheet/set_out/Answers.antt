@@ -1,6 +1,5 @@
-use Rattle.std.proofs.Common.{List, [], sym, refl, subst, arith}
-use Rattle.walks.specs.declared.parts.Event.{Event}
-use Rattle.walks.specs.Logs.{Lawful, NoneAwaited}
+use Rattle.std.proofs.Common.{[], refl, arith}
+use Rattle.walks.specs.Logs.{NoneAwaited}
 use Rattle.walks.proofs.Laws.{lawful_keep_law}
 use Rattle.walks.proofs.Sets.{bit_of_none}
 use Rattle.book.specs.Plain.{Plain, asking}
@@ -10,17 +9,9 @@ use Rattle.runs.proofs.sheet.RunSheet.set_out.Goals as goal
 idle : (b : Plain) → NoneAwaited b []
 idle b c a = let z = bit_of_none (asking b c) in let e = a.1 in omega arith
 
-pub invariant_of-result : goal.invariant_of-result
-invariant_of-result c =
-    let b = plan c.args.self.now in
-    let law = subst (λ (l : List Event). ∥ Lawful b (times c.args.self.now) l ∥₁) (sym c.new.ensures) ∣ tt ∣₁ in
-    record { law = law; idle = subst (λ (l : List Event). ∥ NoneAwaited b l ∥₁) (sym c.new.ensures) ∣ idle b ∣₁ }
-
 pub returns : goal.returns
 returns c =
     record {
-      on_sheet = refl;
-      has_log = c.new.ensures;
-      law = lawful_keep_law (plan c.args.self.now) (times c.args.self.now) [] tt;
+      run = record { on_sheet = refl; has_log = c.new.ensures; law = lawful_keep_law (plan c.args.self.now) (times c.args.self.now) [] tt };
       idle = idle (plan c.args.self.now);
     }
