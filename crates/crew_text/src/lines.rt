@@ -3,7 +3,7 @@ use crate::names::name;
 use crate::reasons::file_words;
 use book::keeping::Book;
 use format::parts::{Fault, NamePlace, Reason};
-use runs::ending::Ending;
+use runs::state::{Check, Closed};
 use std::alloc::{AllocError, Global};
 use walks::parts::{Event, Report, Telling};
 
@@ -99,12 +99,12 @@ pub(crate) fn put_ending(
     page: &mut Vec<u8>,
     text: &[u8],
     places: &[NamePlace],
-    ending: Ending,
+    ending: Result<Closed, Check>,
     over: usize,
 ) -> Result<(), AllocError> {
     match ending {
-        Ending::Unanswered(check) => put_lack(page, text, places, check.job),
-        Ending::Ended(closed) => {
+        Err(check) => put_lack(page, text, places, check.job),
+        Ok(closed) => {
             let jobs = closed.jobs;
             let last = closed.last;
             let line = if over == 0 {

@@ -11,7 +11,7 @@ use promise::parts::{Reply, Request};
 use promise::whole::plan_and_run;
 use rules::parts::Origin;
 use rules::rows::{Row, Step};
-use runs::ending::{Ending, Walked};
+use runs::ending::Walked;
 use std::alloc::Global;
 use std::io;
 use walks::parts::Event;
@@ -83,12 +83,12 @@ fn print_events(rt: &HostRuntime, events: &[Event]) -> io::Result<()> {
 fn print_run(rt: &HostRuntime, walked: &Walked) -> io::Result<()> {
     print_events(rt, walked.log.events())?;
     match walked.ending {
-        Ending::Ended(closed) => {
+        Ok(closed) => {
             let jobs = closed.jobs;
             let last = closed.last;
             println!(rt; "{jobs} jobs, last minute {last}")
         }
-        Ending::Unanswered(check) => {
+        Err(check) => {
             let number = check.number;
             println!(rt; "check {number} is asked for")
         }
