@@ -1,6 +1,7 @@
 pub mod Bits
 pub mod Tests
 pub mod Checks
+pub mod Found
 pub mod Rows
 pub mod Refused
 pub mod Grown

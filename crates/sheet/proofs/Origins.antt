@@ -61,7 +61,3 @@ loop_known b s rs loop i h =
     let inn = chain_in (weak_system b s) rs loop.from loop.from i loop.closes h in
     let long = length-map hs (rule_of (λ j. j)) in
     rw (get_or-map (origin_of (weak_origins b s)) rs i 0 (Bound 0) h) (known_at b hs r (omega (arith, inn, long)) (in_known b s (holds b) (holds_known b)))
-
--- a check of the book is one of its jobs
-pub check_found : (b : Plain) (c : ℕ) → Sound b → c < checks b → check_job b c ≡ Some (asking b c)
-check_found b c s h = rw (lt-ltb (asking b c) (length b.jobs) (s.asked c h).0) refl

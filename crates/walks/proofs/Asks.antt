@@ -1,8 +1,6 @@
 -- The lowest check sought is the check asked for.
-use Rattle.std.proofs.Common.{◌≡◌, ℕ, ◌<◌, cond, List, length, Some, None, ap, lt-ltb}
-use Rattle.book.specs.Done.{check_job}
-use Rattle.book.specs.Plain.{Plain, checks, asking}
-use Rattle.book.specs.Sound.{Sound}
+use Rattle.std.proofs.Common.{ℕ, List, Some, None}
+use Rattle.book.specs.Plain.{Plain}
 use Rattle.walks.specs.declared.parts.Event.{Event}
 use Rattle.walks.specs.Logs.{just_told, Awaited, Asked, NoneAwaited}
 use Rattle.walks.specs.Standing.{heard_set}
@@ -21,7 +19,3 @@ module _ (b : Plain) (log : List Event) where
 
   pub none_asked : LowestSought b (just_told log) (heard_set log) None → NoneAwaited b log
   none_asked h c a = h c (sought c a)
-
--- the job of a check of the book is found
-pub check_found : (b : Plain) → Sound b → (c : ℕ) → c < checks b → check_job b c ≡ Some (asking b c)
-check_found b sound c h = ap (λ t. cond t (Some (asking b c)) None) (lt-ltb (asking b c) (length b.jobs) (sound.asked c h).0)

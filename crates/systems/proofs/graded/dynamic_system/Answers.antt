@@ -1,4 +1,4 @@
-use Rattle.std.proofs.Common.{◌≡◌, ◌*◌, List, map, length, sym, ap, ◌∙◌, subst, ap₂}
+use Rattle.std.proofs.Common.{◌*◌, List, map, length, sym, ap, ◌∙◌, subst, ap₂}
 use Rattle.book.specs.declared.parts.Job.{Job}
 use Rattle.book.specs.declared.keeping.Book.{Book}
 use Rattle.book.specs.Plain.{cases}

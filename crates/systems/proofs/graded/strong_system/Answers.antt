@@ -3,7 +3,7 @@ use Rattle.book.specs.declared.parts.Job.{Job}
 use Rattle.book.specs.declared.keeping.Book.{Book}
 use Rattle.book.specs.Held.{held, held_sound}
 use Rattle.rules.specs.Rules.{Sound}
-use Rattle.grades.specs.Systems.{holds, holds_in}
+use Rattle.grades.specs.Systems.{holds}
 use Rattle.grades.proofs.Limits.{systems_sound}
 use Rattle.systems.proofs.Made.{hold_system}
 use Rattle.systems.proofs.graded.strong_system.Goals as goal
