@@ -1,17 +1,14 @@
 -- What holds of every plain book: its checks are done where they are wanted, and it stays sound.
-use Rattle.std.proofs.Common.{◌≡◌, ℕ, ◌+◌, ◌<◌, List, [], ◌∷◌, ◌++◌, length, get_or, take, Ok, Err, Result, MatchResult, IsOkAnd, sym}
-use Rattle.std.proofs.Common.{refl, ap, ◌∙◌}
+use Rattle.std.proofs.Common.{◌≡◌, ℕ, ◌+◌, ◌<◌, List, [], ◌∷◌, ◌++◌, length, get_or, take, sym, refl, ap, ◌∙◌}
 use Rattle.std.specs.List.{AllByRecursion}
 use Rattle.std.proofs.lemmas.List.{take_more}
 use Rattle.book.specs.declared.parts.Label.{Label}
 use Rattle.book.specs.declared.parts.Call.{Call}
 use Rattle.book.specs.declared.parts.Call.TheVariants.{AddJob, AddCheck, AddBound, Withdraw}
-use Rattle.book.specs.declared.parts.Refusal.{Refusal}
-use Rattle.book.specs.declared.parts.Taken.{Taken}
 use Rattle.book.specs.Labels.{Meets, Contains}
 use Rattle.book.specs.Plain.{Plain, new_book, job, asking}
 use Rattle.book.specs.Sound.{Sound}
-use Rattle.book.specs.Fed.{Answer, Handed, answered, fed, fed_one, fed_from, answers, answer_one}
+use Rattle.book.specs.Fed.{Answer, Handed, fed, fed_one, fed_from, answers, answer_one}
 use Rattle.book.specs.Theorems.{ChecksDone, StaysSound}
 use Rattle.book.proofs.Kept.{new_sound, add_job_keeps, add_check_keeps, add_bound_keeps, withdraw_keeps}
 
@@ -43,15 +40,6 @@ fed_push b (d ∷ cs) c = fed_push (fed_one b d) cs c
 pub answers_push : (b : Plain) (cs : List Call) (c : Call) → answers b (cs ++ c ∷ []) ≡ answers b cs ++ answer_one (fed_from b cs) c ∷ []
 answers_push b [] c = refl
 answers_push b (d ∷ cs) c = ap (λ t. answer_one b d ∷ t) (answers_push (fed_one b d) cs c)
-
--- the answer of a call, from what the call of the plain book answers
-pub mapped : {A : Type 0} (f : A → Taken) (r o : Result A Refusal) (s : Answer)
-    → MatchResult r (λ x. IsOkAnd s (λ y. y ≡ f x)) (λ e. s ≡ Err e)
-    → r ≡ o
-    → s ≡ answered f o
-mapped f (Ok x) o (Ok y) m e = ap Ok m ∙ ap (answered f) e
-mapped f (Ok x) o (Err y) m e = absurd m
-mapped f (Err x) o s m e = m ∙ ap (answered f) e
 
 -- one turn of the loop over the calls
 pub carried :

@@ -27,6 +27,7 @@ module _ (b : Plain) (l : Label) (small_yes : l.yes < 2 ^ 8) (small_no : l.no < 
       at v w f y n = grind (arith, nat_tests)
 
   pub label_parts : part_missing b l ≡ false → (c : ℕ) → Names l c → lacks l (job b (asking b c)).label ≡ false
+  unfolding part_missing
   label_parts e c n =
       and_left_false (names l c) (lacks l (job b (asking b c)).label) ((names_decides l c).1 n)
       (none_below 8 (λ k. names l k && lacks l (job b (asking b k)).label) e c (named_below l small_yes small_no c n))

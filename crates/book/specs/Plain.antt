@@ -101,7 +101,7 @@ abbrev pub lacks : Label → Label → Bool
 lacks l m = any_below 8 (λ k. (wants_yes m k && not (wants_yes l k)) || (wants_no m k && not (wants_no l k)))
 
 -- it lacks part of the label of a check that it names
-abbrev pub part_missing : Plain → Label → Bool
+unfoldable pub part_missing : Plain → Label → Bool
 part_missing b l = any_below 8 (λ c. names l c && lacks l (job b (asking b c)).label)
 
 -- one label wants yes of a check, the other no
