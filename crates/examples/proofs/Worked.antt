@@ -5,6 +5,7 @@ use Rattle.std.proofs.lemmas.Int.{ints}
 use Rattle.book.specs.declared.parts.Bound.{Bound}
 use Rattle.book.specs.declared.parts.Refusal.TheVariants.{PartMissing, MinutesBeyond, Exclusive}
 use Rattle.book.specs.Plain as book
+use Rattle.book.specs.Plain.{part_missing}
 use Rattle.rules.specs.Loops.{Loop}
 use Rattle.rules.specs.Rules.{rule}
 use Rattle.grades.specs.Grades.{Minutes, Weak, Strong, Dynamic}
@@ -36,6 +37,7 @@ abbrev further : ℤ → List Bound → List Bound
 further within more = most wet seal within ∷ most seal grout (pos 10) ∷ more
 
 wet_hole : WetHole
+unfolding part_missing
 wet_hole = record {
   answers_are = refl;
   plan_is = refl;
@@ -120,6 +122,7 @@ hurried = record {
 }
 
 tight_by_five : TightByFive
+unfolding part_missing
 tight_by_five = record {
   plan_is = refl;
   weak = record { good = strategy_by_test (specs.tight (pos 5)) (timetable 0 61) refl; first = λ m d s h j l _. first m d s j };
@@ -136,6 +139,7 @@ tight_by_five = record {
         no_later (further (pos 5) (least grout seal (pos 5) ∷ [])) m d 0 61 (omega arith) (omega arith)
 
 tight_by_four : TightByFour
+unfolding part_missing
 tight_by_four = record {
   plan_is = refl;
   dynamic = record { good = dynamic_by_test (specs.tight (pos 4)) (timetable 61 65) refl refl; first = λ m d s h j l _. first m d s j };
@@ -158,6 +162,7 @@ bounds_taken = record {
 }
 
 labels_taken : LabelsTaken
+unfolding part_missing
 labels_taken = record { core = refl; part_missing = (PartMissing, refl, refl, refl); whole = refl }
 
 runs : Runs
