@@ -1,5 +1,5 @@
 -- The whole promise, from a new book to the end of a run.
-use Rattle.std.specs.Prelude.{◌≡◌, Bool, List, ℤ, vec_items}
+use Rattle.std.specs.Prelude.{◌≡◌, Bool, List, ℤ, vec_items, Option, MatchOption}
 use Rattle.book.specs.Plain.{Plain, new_book}
 use Rattle.book.specs.Held.{held}
 use Rattle.book.specs.Fed.{fed}
@@ -12,8 +12,6 @@ use Rattle.runs.specs.declared.sheet.RunSheet.{RunSheet}
 use Rattle.runs.specs.Sheets.{plan, NoDynamic}
 use Rattle.runs.specs.Walks.{WalksSo}
 use Rattle.promise.specs.declared.parts.Request.{Request}
-use Rattle.promise.specs.declared.outcome.Run.{Run}
-use Rattle.promise.specs.declared.outcome.Run.TheVariants.{NotReady, Walked as Goes}
 use Rattle.promise.specs.declared.outcome.Outcome.{Outcome}
 use Rattle.promise.specs.Serving.{desk, AllServed, calls_among}
 
@@ -25,9 +23,8 @@ pub record OnSheet (b : Plain) (outcomes : List Bool) (w : Walked) : Type 0 wher
   pub ready : Ready b sheet.minutes
   pub walks : WalksSo sheet outcomes w
 
-abbrev pub RunKept : Plain → List Bool → Run → Type 0
-RunKept b outcomes NotReady = NoDynamic b
-RunKept b outcomes (Goes w) = OnSheet b outcomes w
+abbrev pub RunKept : Plain → List Bool → Option Walked → Type 0
+RunKept b outcomes run = MatchOption run (NoDynamic b) (OnSheet b outcomes)
 
 -- the lists that are lent: the minutes list and the loop list of the verdicts, and the minutes list of the search
 pub record Lent : Type 0 where

@@ -4,18 +4,11 @@ use book::keeping::Book;
 use find::{Found, Refusal};
 use runs::ending::Walked;
 
-// A run of the plan, or none where the plan is not dynamically good.
-#[derive(Drop)]
-pub enum Run {
-    NotReady,
-    Walked(Walked),
-}
-
-// The book, the reply to each request, what the search answered, and the run.
+// The book, the reply to each request, what the search answered, and the run, if the plan is dynamically good.
 #[derive(Drop)]
 pub struct Outcome {
     pub book: Book,
     pub replies: Vec<Reply>,
     pub found: Result<Found, Refusal>,
-    pub run: Run,
+    pub run: Option<Walked>,
 }

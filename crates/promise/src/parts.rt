@@ -4,7 +4,7 @@ use find::Refusal;
 use verdicts::answers::{DynamicAnswer, StrongAnswer, WeakAnswer};
 
 // A call of the book, or a verdict on it.
-#[derive(Clone, Copy)]
+#[derive(Clone, Copy, Debug, PartialEq, Eq)]
 pub enum Request {
     Book(Call),
     Strong,

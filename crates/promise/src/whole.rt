@@ -2,7 +2,7 @@
 ghost use Rattle.std.specs.Prelude.{◌≡◌, MatchResult};
 ghost use Rattle.promise.specs.Whole.{Promise};
 
-use crate::outcome::{Outcome, Run};
+use crate::outcome::Outcome;
 use crate::parts::Request;
 use crate::serving::serve_all;
 use book::keeping::Book;
@@ -36,8 +36,8 @@ pub fn plan_and_run<T: RuleSystem>(
     serve_all(&mut book, requests, minutes, loops, &mut replies);
     let found = find(system, table);
     let run = match sheet.make_ready(&book) {
-        Readiness::Yes => Run::Walked(walk(&sheet, outcomes)),
-        Readiness::No => Run::NotReady,
+        Readiness::Yes => Some(walk(&sheet, outcomes)),
+        Readiness::No => None,
     };
     Ok(Outcome {
         book,

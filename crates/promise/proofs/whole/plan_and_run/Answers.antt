@@ -1,7 +1,7 @@
-use Rattle.std.proofs.Common.{◌≡◌, vec_items, sym, subst}
+use Rattle.std.proofs.Common.{◌≡◌, Option, vec_items, sym, subst}
 use Rattle.book.specs.Held.{held}
 use Rattle.book.specs.Plain.{new_book}
-use Rattle.promise.specs.declared.outcome.Run.{Run}
+use Rattle.runs.specs.declared.ending.Walked.{Walked}
 use Rattle.promise.specs.Serving.{desk, AllServed}
 use Rattle.promise.specs.Whole.{RunKept}
 use Rattle.promise.proofs.Requests.{plan_served}
@@ -18,7 +18,7 @@ returns g c =
     let replies = vec_items c.serve_all.new.replies in
     let served : AllServed begun requests replies after =
     subst (λ b. AllServed (desk b c.args.minutes.now c.args.loops.now) requests replies after) fresh c.serve_all.ensures in
-    let P : Run → Type 0 = λ r. RunKept (held book) c.args.outcomes.now r in
+    let P : Option Walked → Type 0 = λ r. RunKept (held book) c.args.outcomes.now r in
     record {
       served = served;
       book = plan_served begun requests replies after served;
