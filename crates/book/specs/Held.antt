@@ -2,11 +2,10 @@
 use Rattle.book.specs.declared.keeping.Book.{Book}
 use Rattle.book.specs.Plain.{Plain, plain}
 use Rattle.book.specs.Sound.{Sound}
-use Rattle.book.specs.Single.{sound_held}
 
 abbrev pub held : Book → Plain
 held b = plain b.table
 
 -- every book is sound
 pub held_sound : (b : Book) → Sound (held b)
-held_sound b = sound_held (held b) b.wellformed
+held_sound b = b.wellformed

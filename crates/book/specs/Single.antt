@@ -1,12 +1,11 @@
--- To be sound is a proposition: a ghost field can hold it under `∥ ∥₁`, and give it back.
-use Rattle.std.specs.Prelude.{◌≡◌, ℕ, pos, neg_ℤ, ◌≤ℤ◌, Some, None, Option, refl}
-use Rattle.std.proofs.Common.{ap, arith}
+-- To be sound is a proposition, so a ghost field can hold it.
+use Rattle.std.specs.Prelude.{◌≡◌, ℕ, pos, neg_ℤ, ◌≤ℤ◌, Option}
+use Rattle.std.proofs.Common.{ap}
 use mathlib.Core.HLevel.{hedberg}
-use Rattle.std.proofs.Math.Logic.{∥∥₁_elim}
 use Rattle.std.proofs.Math.Bridge.{le_prop}
 use Rattle.std.proofs.Math.Decide.{ℕ_discrete}
 use Rattle.std.proofs.Math.Nat.{ℕ_set}
-use denote.Struct.Props.{props}
+use Rattle.std.proofs.Props.{props}
 use Rattle.book.specs.declared.parts.Label.{Label}
 use Rattle.book.specs.declared.parts.Bound.{Bound}
 use Rattle.book.specs.Plain.{Plain, bound}
@@ -15,12 +14,8 @@ use Rattle.book.specs.Sound.{Sound, SoundJob, SoundBound}
 never : ⊥ → {A : Type 0} → A
 never e = absurd e
 
-option_discrete : (x y : Option ℕ) → Dec (x ≡ y)
-option_discrete None None = yes refl
-option_discrete None (Some b) = no (λ e. let z : ◌≡◌ {A = ℕ} 0 1 = cc in omega arith)
-option_discrete (Some a) None = no (λ e. let z : ◌≡◌ {A = ℕ} 0 1 = cc in omega arith)
-option_discrete (Some a) (Some b) =
-    elim (ℕ_discrete a b) [ yes e ↦ yes (ap Some e) | no n ↦ no (λ e. let f : a ≡ b = cc in n f) ]
+option_single : (x y : Option ℕ) → IsProp (x ≡ y)
+option_single x y = hlevel props
 
 label_discrete : (x y : Label) → Dec (x ≡ y)
 label_discrete x y =
@@ -60,13 +55,9 @@ sound_single b x y = λ i. record {
   few_checks = le_prop x.few_checks y.few_checks i;
   few_bounds = le_prop x.few_bounds y.few_bounds i;
   start_free = hedberg label_discrete _ _ x.start_free y.start_free i;
-  start_asks_nothing = hedberg option_discrete _ _ x.start_asks_nothing y.start_asks_nothing i;
-  asked = λ c h. (le_prop (x.asked c h).0 (y.asked c h).0 i, hedberg option_discrete _ _ (x.asked c h).1 (y.asked c h).1 i);
+  start_asks_nothing = option_single _ _ x.start_asks_nothing y.start_asks_nothing i;
+  asked = λ c h. (le_prop (x.asked c h).0 (y.asked c h).0 i, option_single _ _ (x.asked c h).1 (y.asked c h).1 i);
   in_order = λ c d h l. le_prop (x.in_order c d h l) (y.in_order c d h l) i;
   each_job = λ j h. job_single b j (x.each_job j h) (y.each_job j h) i;
   each_bound = λ j h. bound_single b (bound b j) (x.each_bound j h) (y.each_bound j h) i;
 }
-
--- what a ghost field holds under `∥ ∥₁` is had again
-pub sound_held : (b : Plain) → ∥ Sound b ∥₁ → Sound b
-sound_held b h = ∥∥₁_elim h (sound_single b) (λ s. s)

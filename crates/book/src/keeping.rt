@@ -2,6 +2,7 @@
 ghost use Rattle.book.specs.Plain.{plain};
 ghost use Rattle.book.specs.Room.{Roomy};
 ghost use Rattle.book.specs.Sound.{Sound};
+ghost use Rattle.book.specs.Single.{sound_single};
 
 use crate::parts::Table;
 
@@ -10,5 +11,5 @@ use crate::parts::Table;
 pub struct Book {
     pub(crate) table: Table,
     ghost room: { Roomy table },
-    ghost wellformed: { ∥ Sound (plain table) ∥₁ },
+    ghost wellformed: { Sound (plain table) } by { sound_single (plain table) },
 }

@@ -7,4 +7,4 @@ use Rattle.book.proofs.keeping.Book.add_bound.Goals as goal
 pub invariant_of-self : goal.invariant_of-self
 invariant_of-self c =
     let kept = add_bound_keeps (held c.args.self.now) c.args.bound (held_sound c.args.self.now) in
-    record { room = c.add_bound.ensures.room; wellformed = ∣ subst Sound (sym c.add_bound.ensures.after) kept ∣₁ }
+    record { room = c.add_bound.ensures.room; wellformed = subst Sound (sym c.add_bound.ensures.after) kept }

@@ -7,4 +7,4 @@ use Rattle.book.proofs.keeping.Book.withdraw.Goals as goal
 pub invariant_of-self : goal.invariant_of-self
 invariant_of-self c =
     let kept = withdraw_keeps (held c.args.self.now) c.args.n (held_sound c.args.self.now) in
-    record { room = c.withdraw.ensures.room; wellformed = ∣ subst Sound (sym c.withdraw.ensures.after) kept ∣₁ }
+    record { room = c.withdraw.ensures.room; wellformed = subst Sound (sym c.withdraw.ensures.after) kept }
