@@ -6,7 +6,7 @@ use anyhow::anyhow;
 use book::parts::{Bound, Call, Kind, Label};
 use find::{Found, Refusal};
 use listed::listed;
-use promise::outcome::{Outcome, Run};
+use promise::outcome::Outcome;
 use promise::parts::{Reply, Request};
 use promise::whole::plan_and_run;
 use rules::parts::Origin;
@@ -105,8 +105,8 @@ fn print_outcome(
     print_replies(rt, heap, outcome.replies.as_slice())?;
     print_found(rt, outcome.found, table)?;
     match &outcome.run {
-        Run::NotReady => println!(rt; "not ready")?,
-        Run::Walked(walked) => print_run(rt, walked)?,
+        Some(walked) => print_run(rt, walked)?,
+        None => println!(rt; "not ready")?,
     }
     Ok(())
 }
@@ -115,7 +115,7 @@ fn print_outcome(
 fn run(rt: &HostRuntime) -> anyhow::Result<()> {
     let heap = rt.alloc();
     let requests = [
-        Request::Book(Call::AddCheck(Label { yes: 0, no: 0 })),
+        Request::Book(Call::AddCheck(Label::default())),
         job(1, 0),
         job(0, 0),
         job(0, 1),
