@@ -1,5 +1,5 @@
 -- The least of what the alternatives of a rule ask, and whether one of them leads out: from what was answered of each.
-use Rattle.std.proofs.Common.{◌≡◌, ℕ, zero, suc, ◌+◌, ◌<◌, ◌≤◌, min, ◌⊎◌, Bool, true, false, List, [], ◌∷◌, length, map, get_or, Some, None}
+use Rattle.std.proofs.Common.{◌≡◌, ℕ, zero, suc, ◌<◌, ◌≤◌, min, ◌⊎◌, Bool, true, false, List, [], ◌∷◌, length, map, get_or, Some}
 use Rattle.std.proofs.Common.{ℤ, pos, negsuc, ◌+ℤ◌, ◌≤ℤ◌, w32, MatchBool, fold, sym, refl, ◌∙◌, subst, inl, inr, ⊎_elim, zero-add, arith}
 use Rattle.std.specs.List.{AllWithin, HoldsAt, range_with_len, reduce}
 use Rattle.std.proofs.lemmas.List.FromFn.{length-range_with_len, get_or-range_with_len, length-map-range_with_len, get_or-map-range_with_len}

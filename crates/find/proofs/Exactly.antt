@@ -1,13 +1,10 @@
 -- Each answer comes exactly when its case holds.
-use Rattle.std.proofs.Common.{◌≡◌, ℕ, Ok, Err, Result, refl, ap, arith}
+use Rattle.std.proofs.Common.{Ok, Err, refl, ap, arith}
 use mathlib.Core.HLevel.{⊥_prop}
 use mathlib.Core.Logic.{∥∥₁_elim}
 use Rattle.rules.specs.Rules.{System, NoneKeeps}
-use Rattle.find.specs.declared.answers.Found.{Found}
 use Rattle.find.specs.declared.answers.Found.TheVariants.{Table, NoTable}
-use Rattle.find.specs.declared.answers.Explained.{Explained}
 use Rattle.find.specs.declared.answers.Explained.TheVariants as explained
-use Rattle.find.specs.declared.answers.Refusal.{Refusal}
 use Rattle.find.specs.declared.answers.Refusal.TheVariants.{MinutesShort, LoopShort}
 use Rattle.find.specs.Answers.{SomeKeeps, FindExact, LoopExact}
 

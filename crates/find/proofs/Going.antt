@@ -1,5 +1,5 @@
 -- A round goes on: over the next rule the table stays or rises.
-use Rattle.std.proofs.Common.{ℕ, ◌+◌, ◌<◌, Bool, true, false, ◌||◌, List, sum}
+use Rattle.std.proofs.Common.{ℕ, ◌+◌, Bool, true, false, ◌||◌, List}
 use Rattle.rules.specs.Rules.{System, Kept, rule}
 use Rattle.rules.specs.Search.{Grown}
 use Rattle.rules.proofs.Steps.{Going, going_stays, going_rises}

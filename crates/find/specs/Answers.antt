@@ -1,5 +1,5 @@
 -- What `find` and `find_or_loop` answer.
-use Rattle.std.specs.Prelude.{◌≡◌, ℕ, ◌<◌, ◌≤◌, ◌↔◌, List, ◌++◌, map, length, drop, ℤ, pos, Some, None, Ok, Err, Option, Result, slice_index_or}
+use Rattle.std.specs.Prelude.{◌≡◌, ℕ, ◌<◌, ◌≤◌, ◌↔◌, List, ◌++◌, map, length, drop, ℤ, pos, Ok, Err, Result, slice_index_or}
 use Rattle.rules.specs.declared.parts.Origin.{Origin}
 use Rattle.rules.specs.declared.parts.Origin.TheVariants.{Bound}
 use Rattle.rules.specs.Rules.{System, Keeps, Least, NoneKeeps}
@@ -19,16 +19,6 @@ number LoopShort = 13
 -- the least table stands first among the minutes, and the rest of them is as before
 abbrev pub Written : System → List ℤ → List ℤ → Type 0
 Written m before after = (table : List ℕ) × Least m table × (after ≡ map pos table ++ drop m.places before)
-
--- what the end of a search says: none of the places bar each other, or some do
-abbrev pub found_of : Option ℕ → Found
-found_of None = Table
-found_of (Some p) = NoTable
-
--- one of two, by what was found
-abbrev pub if_found : {A : Type 0} → Found → A → A → A
-if_found Table table none = table
-if_found NoTable table none = none
 
 -- What `find` answers: the minutes are too few, or a table keeps the rules, or none does. Each answer says which, so each comes
 -- exactly then.

@@ -6,14 +6,19 @@ use listed::{Listed, listed};
 use rules::parts::Origin;
 use rules::rows::{Row, Step};
 use rules::system::{RuleSystem, WithOrigins};
-use std::io;
+use std::{array, io};
+
+// An alternative by a place and minutes.
+fn step(place: u16, minutes: i16) -> Step {
+    Step { place, minutes }
+}
 
 // A rule of one alternative.
 fn one(held: u16, place: u16, minutes: i16) -> Row {
     Row {
         held,
         count: 1,
-        alternatives: [Step { place, minutes }; 5],
+        alternatives: [step(place, minutes); 5],
     }
 }
 
@@ -40,12 +45,11 @@ fn show(rt: HostRuntime, system: &Listed, places: usize) -> io::Result<()> {
     }
 }
 
-// The number of the bound that a rule comes from.
+// The number of the bound that a rule comes from, or 1000 for what the output shows of other origins.
 fn bound(origin: Origin) -> usize {
     match origin {
         Origin::Bound(n) => n,
-        Origin::Start(_) => 1000,
-        Origin::Check(_, _) => 1000,
+        Origin::Start(_) | Origin::Check(_, _) => 1000,
     }
 }
 
@@ -107,26 +111,11 @@ fn small(rt: HostRuntime) -> io::Result<()> {
 // Rules with several alternatives.
 fn several(rt: HostRuntime) -> io::Result<()> {
     let falling = [
-        Step {
-            place: 0,
-            minutes: 50,
-        },
-        Step {
-            place: 0,
-            minutes: 40,
-        },
-        Step {
-            place: 0,
-            minutes: 30,
-        },
-        Step {
-            place: 0,
-            minutes: 20,
-        },
-        Step {
-            place: 0,
-            minutes: 10,
-        },
+        step(0, 50),
+        step(0, 40),
+        step(0, 30),
+        step(0, 20),
+        step(0, 10),
     ];
     let last_is_least = Row {
         held: 1,
@@ -134,46 +123,20 @@ fn several(rt: HostRuntime) -> io::Result<()> {
         alternatives: falling,
     };
     both(rt, "five alternatives", 2, &[last_is_least])?;
-    let far = Step {
-        place: 2,
-        minutes: 10,
-    };
-    let up = [
-        two(
-            0,
-            Step {
-                place: 1,
-                minutes: 1,
-            },
-            far,
-        ),
-        two(
-            1,
-            Step {
-                place: 0,
-                minutes: 1,
-            },
-            far,
-        ),
-    ];
+    let far = step(2, 10);
+    let up = [two(0, step(1, 1), far), two(1, step(0, 1), far)];
     both(rt, "more rounds than places", 3, &up)
 }
 
 // As many places as there can be: each a minute after the one before.
 fn many(rt: HostRuntime) -> io::Result<()> {
-    let mut rows = [one(0, 0, 0); 319];
-    for i in 0..319 {
-        rows[i] = one(i as u16 + 1, i as u16, 1);
-    }
+    let rows: [Row; 319] = array::from_fn(|i| one(i as u16 + 1, i as u16, 1));
     both(rt, "320 places", 320, &rows)
 }
 
-// The number of a refusal, or 0.
-fn refused(r: Result<Explained, Refusal>) -> u8 {
-    match r {
-        Ok(_) => 0,
-        Err(refusal) => refusal.number(),
-    }
+// The number of a refusal.
+fn refused(answer: Result<Explained, Refusal>) -> Option<u8> {
+    answer.err().map(Refusal::number)
 }
 
 // Lists that are too short, and questions past the end.
@@ -186,10 +149,13 @@ fn ends(rt: HostRuntime) -> io::Result<()> {
     let mut origins = [Origin::Start(0); 1];
     let short = refused(find_or_loop(&system, &mut minutes, &mut origins));
     let no_list = refused(find_or_loop(&system, &mut enough, &mut origins));
-    println!(rt;
-        "refused {} {} ({} {})",
-        short, no_list, minutes[0], enough[0]
-    )?;
+    match (short, no_list) {
+        (Some(short), Some(no_list)) => println!(rt;
+            "refused {} {} ({} {})",
+            short, no_list, minutes[0], enough[0]
+        )?,
+        _ => println!(rt; "not refused")?,
+    }
     println!(rt;
         "past the end {} {} {} {} {}",
         system.held(1).is_none(),

@@ -1,7 +1,7 @@
 use Rattle.std.proofs.Common.{◌≡◌, pos, ◌+ℤ◌, get_or, sym, ap, ◌∙◌, w32, SFits, to_z, of_z, rules}
 use Rattle.std.specs.Int.{saturate_unsigned}
 use Rattle.std.proofs.lemmas.Int.{to_z-of_z}
-use Rattle.rules.specs.Search.{asked, asked_by}
+use Rattle.rules.specs.Search.{asked_by}
 use Rattle.find.proofs.Asks.{asked_is}
 use Rattle.find.proofs.Places.{no_place, minute_at, is_table}
 use Rattle.find.proofs.asking.Rule.asked.Goals as goal

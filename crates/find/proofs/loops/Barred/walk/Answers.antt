@@ -1,4 +1,4 @@
-use Rattle.std.proofs.Common.{◌≡◌, ◌+◌, ◌-◌, ◌<◌, ◌≤◌, length, take, drop, Some, None, ap, ◌∙◌, subst, arith, rules}
+use Rattle.std.proofs.Common.{◌≡◌, ◌-◌, ◌<◌, length, take, drop, Some, None, ap, ◌∙◌, subst, arith, rules}
 use Rattle.rules.specs.declared.parts.Alternative.{Alternative}
 use Rattle.rules.specs.Rules.{at, alternative}
 use Rattle.rules.specs.Loops.{Loop}

@@ -1,5 +1,5 @@
 use Rattle.std.proofs.Common.{◌+◌, ◌<◌, Bool, true, false, length, sym, refl, ap, ◌∙◌, subst, arith}
-use Rattle.rules.specs.Rules.{Rule, rule}
+use Rattle.rules.specs.Rules.{rule}
 use Rattle.rules.specs.Search.{LeadsOut, Peels, same, drops}
 use Rattle.rules.proofs.Peeling.{Sweeping, peels_in, sweeping_drops, sweeping_stays, not_both}
 use Rattle.find.specs.declared.marks.Marks.{Marks}

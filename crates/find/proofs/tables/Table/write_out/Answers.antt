@@ -3,7 +3,6 @@ use Rattle.std.proofs.lemmas.Int.{ints}
 use Rattle.std.proofs.lemmas.List.{length-take}
 use Rattle.rules.specs.Rules.{at}
 use Rattle.rules.proofs.Steps.{written_more}
-use Rattle.find.specs.declared.tables.Place.{Place}
 use Rattle.find.specs.Tables.{IsTable}
 use Rattle.find.proofs.Places.{no_place, minute_in, is_table}
 use Rattle.find.proofs.tables.Table.write_out.Goals as goal
