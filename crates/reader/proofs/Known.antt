@@ -1,5 +1,5 @@
 -- What has been read after a line that is entered.
-use Rattle.std.proofs.Common.{◌≡◌, ℕ, ◌+◌, ◌-◌, ◌≤◌, List, [], ◌∷◌, ◌++◌, length, get_or, take, drop, Some, None, Option, sym, refl, ap, ◌∙◌, arith}
+use Rattle.std.proofs.Common.{◌≡◌, ℕ, ◌-◌, ◌≤◌, List, [], ◌∷◌, ◌++◌, length, get_or, take, drop, Some, None, Option, sym, refl, ap, ◌∙◌, arith}
 use Rattle.std.proofs.lemmas.List.{length-drop, drop-append-le}
 use Rattle.book.specs.declared.parts.Job.{Job}
 use Rattle.book.specs.Plain.{Plain, no_job, checks, checks_among, one_if_check}
@@ -9,10 +9,9 @@ use Rattle.format.specs.Format.{start_known, one_if, checks_in, numbered, after}
 use Rattle.format.specs.Entered.{label_in, call_job, call_bound}
 use Rattle.format.specs.Faults.{Reading, with_job_line, with_bound_line}
 use Rattle.reader.specs.Names.{slice, named, known_in, known_places, known_by, Named, Stands}
-use Rattle.reader.specs.Entering.{JobEntered, BoundEntered}
 use Rattle.reader.specs.Going.{Holds}
 use Rattle.reader.proofs.Naming.{stands_named}
-use Rattle.reader.proofs.Entered.{jobs_after, places_after, jobs_stay}
+use Rattle.reader.proofs.Entered.{JobEntered, BoundEntered, jobs_after, places_after, jobs_stay}
 
 -- one more name and one more job are one more known
 named_push : (text : List ℕ) (ns : List NamePlace) (p : NamePlace) (js : List Job) (j : Job) → length ns ≡ length js
@@ -43,8 +42,8 @@ known_checks text ns b h s =
     let z = first_free b.jobs s.some (ap one_if_check s.start_asks_nothing) in
     omega (arith, a, z)
 
-module _ (text : List ℕ) (l b : ℕ) (bytes : List ℕ) (ns : List NamePlace) (o : Plain) (ns' : List NamePlace) (o' : Plain) where
-  module _ (j : JobEntered text l b bytes ns o ns' o') (s : Sound o) (h : Stands text ns o) (room : length o.jobs ≤ length ns) where
+module _ (text : List ℕ) (l b : ℕ) (ws : List (List ℕ)) (ns : List NamePlace) (o : Plain) (ns' : List NamePlace) (o' : Plain) where
+  module _ (j : JobEntered text l b ws ns o ns' o') (s : Sound o) (h : Stands text ns o) (room : length o.jobs ≤ length ns) where
     known_after : after (known_by text ns o) j.line ≡ known_by text ns' o'
     known_after =
         let ks = known_places ns o in
@@ -52,12 +51,12 @@ module _ (text : List ℕ) (l b : ℕ) (bytes : List ℕ) (ns : List NamePlace) 
         let nm = stands_named text ns o s h in
         let job : Job = record { label = label_in (known_by text ns o) j.line.wants; check = numbered j.line.work (checks o) } in
         let d : drop 1 o'.jobs ≡ js ++ (job ∷ []) =
-        ap (drop 1) (jobs_after text l b bytes ns o ns' o' j s h room) ∙ drop-append-le 1 o.jobs (job ∷ []) s.some in
+        ap (drop 1) (jobs_after text l b ws ns o ns' o' j s h room) ∙ drop-append-le 1 o.jobs (job ∷ []) s.some in
         let push = named_push text ks j.place js job (omega (arith, nm.counted, length-drop 1 o.jobs)) in
         let c = known_checks text ks o nm s in
         let all : known_by text ns' o'
         ≡ start_known ∷ (named text ks js ++ (record { name = slice text j.place; check = numbered j.line.work (checks o) } ∷ [])) =
-        ap (λ t. start_known ∷ named text t (drop 1 o'.jobs)) (places_after text l b bytes ns o ns' o' j s h room)
+        ap (λ t. start_known ∷ named text t (drop 1 o'.jobs)) (places_after text l b ws ns o ns' o' j s h room)
         ∙ (ap (λ t. start_known ∷ named text (ks ++ (j.place ∷ [])) t) d ∙ ap (λ t. start_known ∷ t) push) in
         sym (all
         ∙ (ap (λ w. start_known ∷ (named text ks js ++ (record { name = w; check = numbered j.line.work (checks o) } ∷ []))) j.spelled
@@ -70,11 +69,11 @@ module _ (text : List ℕ) (l b : ℕ) (bytes : List ℕ) (ns : List NamePlace) 
           ∙ (ap (λ x. (call_job (known_by text ns o) x j.line).after) k.book ∙ sym j.book);
     }
 
-  module _ (j : BoundEntered text l b bytes ns o o') (h : Stands text ns o) where
+  module _ (j : BoundEntered text l b ws ns o o') (h : Stands text ns o) where
     pub bound_holds : (t : Reading) → Holds text ns o t → Holds text ns o' (with_bound_line t j.line)
     bound_holds t k = record {
       known = k.known
-          ∙ ap (λ js. start_known ∷ named text (take (length js - 1) ns) (drop 1 js)) (sym (jobs_stay text l b bytes ns o ns' o' j h));
+          ∙ ap (λ js. start_known ∷ named text (take (length js - 1) ns) (drop 1 js)) (sym (jobs_stay text l b ws ns o ns' o' j h));
       book = ap (λ x. (call_bound x t.book j.line).after) k.known
           ∙ (ap (λ x. (call_bound (known_by text ns o) x j.line).after) k.book ∙ sym j.book);
     }

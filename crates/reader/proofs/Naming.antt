@@ -1,30 +1,20 @@
 -- Names by their places, and the jobs known by them.
 use Rattle.std.proofs.Common.{◌≡◌, ℕ, zero, suc, ◌+◌, ◌-◌, ◌<◌, ◌≤◌, Bool, true, false, cond, List, [], ◌∷◌, length, get_or, drop, Some}
-use Rattle.std.proofs.Common.{None, codes, Decides, Option, sym, refl, ap, ◌∙◌, arith}
+use Rattle.std.proofs.Common.{None, codes, Option, sym, refl, ap, ◌∙◌, arith}
 use Rattle.std.proofs.lemmas.List.{at_drop_more, length-drop, get_or-drop, length-take-le}
 use Rattle.book.specs.declared.parts.Job.{Job}
 use Rattle.book.specs.Plain.{Plain, job, no_job}
 use Rattle.book.specs.Sound.{Sound}
 use Rattle.format.specs.declared.parts.NamePlace.{NamePlace}
-use Rattle.format.specs.Format.{start_known, same, job_from, job_number}
+use Rattle.format.specs.Format.{start_known, same, job_from, job_number, check_of, check_number}
 use Rattle.format.proofs.Steps.{no_value, same_some}
-use Rattle.reader.specs.Names.{slice, no_place, place_from, number_among, named, known_in, Named, known_places, Stands}
+use Rattle.reader.specs.Names.{slice, no_place, place_from, number_among, named, known_in, known_by, Named, known_places, Stands}
 use Rattle.reader.specs.Says.{InList}
-
--- two tests of one thing give the same
-pub decided_alike : {P : Type 0} (r s : Bool) → Decides r P → Decides s P → r ≡ s
-decided_alike true s f g = sym (g.1 (f.0 refl))
-decided_alike false true f g = f.1 (g.0 refl)
-decided_alike false false f g = refl
 
 -- a name at the next place, or not
 pub place_found : (n i : ℕ) (text : List ℕ) (ns : List NamePlace) (w : List ℕ) → i < length ns → same (slice text (get_or ns i no_place)) w ≡ true
     → place_from n text (drop i ns) w ≡ Some n
 place_found n i text ns w h e = at_drop_more (λ t. place_from n text t w) ns i no_place h ∙ rw e refl
-
-pub place_more : (n i : ℕ) (text : List ℕ) (ns : List NamePlace) (w : List ℕ) → i < length ns → same (slice text (get_or ns i no_place)) w ≡ false
-    → place_from n text (drop i ns) w ≡ place_from (n + 1) text (drop (i + 1) ns) w
-place_more n i text ns w h e = at_drop_more (λ t. place_from n text t w) ns i no_place h ∙ rw e refl
 
 pub not_start : (text : List ℕ) (ns : List NamePlace) (w : List ℕ) → same (codes "start") w ≡ false → number_among text ns w ≡ place_from 1 text ns w
 not_start text ns w e = rw e refl
@@ -85,6 +75,30 @@ pub in_list : (o : Option ℕ) (n : ℕ) → ((j : ℕ) → o ≡ Some j → j <
 in_list (Some j) n f = f j refl
 in_list None n f = tt
 
-pub in_list_some : (o : Option ℕ) (j n : ℕ) → o ≡ Some j → InList o n → j < n
-in_list_some (Some k) j n e h = let s = same_some k j e in omega arith
-in_list_some None j n e h = no_value j e
+-- the job found at one of the places known
+pub record Found (text : List ℕ) (ns : List NamePlace) (b : Plain) (w : List ℕ) (r : Option ℕ) : Type 0 where
+  pub value : r ≡ job_number (known_by text ns b) w
+  pub within : InList r (length b.jobs)
+
+pub found_job : (text : List ℕ) (ns : List NamePlace) (b : Plain) (w : List ℕ) (r : Option ℕ) → Sound b → Stands text ns b
+    → r ≡ number_among text (known_places ns b) w → Found text ns b w r
+found_job text ns b w r s h e =
+    let n = stands_named text ns b s h in
+    record {
+      value = e ∙ sym (known_number text (known_places ns b) b w n);
+      within = in_list r _ (λ j q. number_bound text (known_places ns b) b w j n (sym e ∙ q));
+    }
+
+-- and the check found there
+pub record FoundCheck (text : List ℕ) (ns : List NamePlace) (b : Plain) (w : List ℕ) (r : Option ℕ) : Type 0 where
+  pub value : r ≡ check_number (known_by text ns b) w
+  pub few : InList r 8
+
+pub found_check : (text : List ℕ) (ns : List NamePlace) (b : Plain) (w : List ℕ) (j : ℕ) (js : List Job) → Sound b → Stands text ns b
+    → Some j ≡ job_number (known_by text ns b) w → j < length b.jobs → js ≡ b.jobs → FoundCheck text ns b w (get_or js j no_job).check
+found_check text ns b w j js s h e k same =
+    let known = known_check text (known_places ns b) b j (stands_named text ns b s h) s in
+    rw same (record {
+      value = sym (ap (check_of (known_by text ns b)) (sym e) ∙ known);
+      few = in_list (job b j).check 8 (λ c q. check_small b j c s k q);
+    })

@@ -1,93 +1,94 @@
--- The pieces of a text, by places, and the letters of a name.
-use Rattle.std.proofs.Common.{◌≡◌, ℕ, ◌+◌, ◌-◌, ◌<◌, ◌≤◌, Bool, false, ◌⊎◌, List, [], ◌∷◌, ◌++◌, length, get_or, take, drop, sym, refl, ap}
-use Rattle.std.proofs.Common.{◌∙◌, ⊎_elim, arith}
-use Rattle.std.proofs.lemmas.Bool.Decides.{nat_tests}
-use Rattle.std.proofs.lemmas.List.{take_more, drop_more, drop-drop, take-append-drop, take_all, get_or-drop, length-drop, at_drop_more}
-use Rattle.format.specs.Faults.{cut, letters, name_form}
-use Rattle.format.proofs.Cuts.{Free, cut_piece, cut_last}
-use Rattle.std.proofs.lemmas.Bool.{le-leb, lt-leb, cases_lt}
-use Rattle.reader.specs.Pieces.{Piece, pieces_from}
+-- The pieces of a text.
+use Rattle.std.proofs.Common.{◌≡◌, ℕ, ◌+◌, ◌<◌, ◌≤◌, Bool, true, false, cond, eqb, ◌⊎◌, List, [], ◌∷◌, ◌++◌, length, take, drop, ltb, not, Some, None, Option, MatchOption, sym, refl, ap, ◌∙◌, arith}
+use Rattle.std.proofs.lemmas.List.{length-append, take-take, drop-take, drop-drop}
+use Rattle.std.proofs.Math.Seq.{take-append_seam, drop-append_seam}
+use Rattle.reader.specs.declared.piece.Piece.{Piece}
+use Rattle.reader.specs.Pieces.{Lies, Parted}
+use Rattle.std.specs.List.{slice_split, onto_first, position_or_len, position}
+use Rattle.std.proofs.lemmas.List.Splits.{slice_split_first}
+use Rattle.std.proofs.lemmas.List.Sums.{split_at_first, passes_at_first}
+use Rattle.std.proofs.lemmas.Bool.{eqb-true, ltb-true, ltb-false}
+use Rattle.format.specs.Faults.{cut, onto}
+use Rattle.format.specs.Format.{same}
 
-free_append : (c : ℕ) (a b : List ℕ) → Free c a → Free c b → Free c (a ++ b)
-free_append c [] b f g = g
-free_append c (x ∷ a) b f g = (f.0, free_append c a b f.1 g)
-
--- one byte more that is not c
-pub free_more : (c : ℕ) (text : List ℕ) (start end : ℕ) → start ≤ end → end < length text → (get_or text end 0 ≡ c → ⊥)
-    → Free c (take (end - start) (drop start text)) → Free c (take (end + 1 - start) (drop start text))
-free_more c text start end h k ne f =
-    let d = length-drop start text in
-    let p : start + (end - start) ≡ end = omega arith in
-    let m = take_more (drop start text) (end - start) 0 (omega arith) in
-    let g : get_or (drop start text) (end - start) 0 ≡ get_or text end 0 = get_or-drop start text (end - start) 0 ∙ ap (λ k. get_or text k 0) p in
-    let n : end + 1 - start ≡ end - start + 1 = omega arith in
-    rw (n, m) (free_append c _ _ f (λ e. ne (sym g ∙ e), tt))
-
-pub piece : (c : ℕ) (text : List ℕ) (start end : ℕ) → start ≤ end → end ≤ length text → Free c (take (end - start) (drop start text))
-    → (end < length text → get_or text end 0 ≡ c) → Piece c text start end
-piece c text start end h k f stop = record {
-  from = h;
-  within = k;
-  is = rw (le-leb start (length text) (omega arith))
-      (⊎_elim more last (cases_lt end (length text)));
-}
+-- a cut is what `split` gives
+cut_is : (c : ℕ) (xs : List ℕ) → cut c xs ≡ slice_split (λ x. eqb x c) xs
+cut_is c [] = refl
+cut_is c (x ∷ xs) = rw (cut_is c xs) (ap (cond (eqb x c) ([] ∷ slice_split (λ x. eqb x c) xs)) (one_way x (slice_split (λ x. eqb x c) xs)))
   where
-    p : start + (end - start) ≡ end
-    p = omega arith
+    one_way : (x : ℕ) (ws : List (List ℕ)) → onto x ws ≡ onto_first x ws
+    one_way x [] = refl
+    one_way x (w ∷ ws) = refl
 
-    s : drop start text ≡ take (end - start) (drop start text) ++ drop end text
-    s = sym (take-append-drop (end - start) (drop start text)) ∙ ap (λ t. take (end - start) (drop start text) ++ t)
-        (drop-drop (end - start) start text ∙ ap (λ k. drop k text) p)
+-- a text with no byte c is one piece
+uncut : (c : ℕ) (xs : List ℕ) → length xs ≤ position_or_len (λ x. eqb x c) xs → cut c xs ≡ xs ∷ []
+uncut c [] h = refl
+uncut c (x ∷ xs) h = go (eqb x c) h (uncut c xs)
+  where
+    go : (t : Bool) → length (x ∷ xs) ≤ cond (not t) (1 + position_or_len (λ x. eqb x c) xs) 0
+        → (length xs ≤ position_or_len (λ x. eqb x c) xs → cut c xs ≡ xs ∷ []) → cond t ([] ∷ cut c xs) (onto x (cut c xs)) ≡ (x ∷ xs) ∷ []
+    go true h ih = absurd (omega arith)
+    go false h ih = rw (ih (omega arith)) refl
 
-    more : end < length text → cut c (drop start text) ≡ take (end - start) (drop start text) ∷ pieces_from c text (end + 1)
-    more l =
-        let e = drop_more text end 0 l in
-        let i : drop start text ≡ take (end - start) (drop start text) ++ (c ∷ drop (end + 1) text) = s ∙ ap
-        (λ t. take (end - start) (drop start text) ++ t) (e ∙ ap (λ x. x ∷ drop (end + 1) text) (stop l)) in
-        rw (le-leb (end + 1) (length text) (omega arith)) (ap (cut c) i ∙ cut_piece c _ (drop (end + 1) text) f)
+-- at its first byte c, a text is cut
+abbrev pub CutAt : ℕ → List ℕ → ℕ → Type 0
+CutAt c xs n = (n < length xs) × (cut c xs ≡ take n xs ∷ cut c (drop (n + 1) xs)) × (xs ≡ take n xs ++ (c ∷ drop (n + 1) xs))
 
-    last : length text ≤ end → cut c (drop start text) ≡ take (end - start) (drop start text) ∷ pieces_from c text (end + 1)
-    last l =
-        let d = length-drop start text in
-        let a = take_all (end - start) (drop start text) (omega arith) in
-        rw (lt-leb (end + 1) (length text) (omega arith)) (ap (cut c) (sym a) ∙ cut_last c _ f)
+pub cut_at : (c : ℕ) (xs : List ℕ) (r : Option ℕ) → r ≡ position (λ x. eqb x c) xs → MatchOption r (cut c xs ≡ xs ∷ []) (CutAt c xs)
+cut_at c xs r e = go (ltb (position_or_len p xs) (length xs)) refl r e
+  where
+    p : ℕ → Bool
+    p = λ x. eqb x c
 
-pub letter_more : (w : List ℕ) (i : ℕ) → i < length w → 97 ≤ get_or w i 0 → get_or w i 0 ≤ 122 → letters (drop i w) ≡ letters (drop (i + 1) w)
-letter_more w i h lo hi = let e = at_drop_more letters w i 0 h in e ∙ grind (arith, nat_tests)
+    go : (t : Bool) → ltb (position_or_len (λ x. eqb x c) xs) (length xs) ≡ t → (r : Option ℕ)
+        → r ≡ cond t (Some (position_or_len (λ x. eqb x c) xs)) None → MatchOption r (cut c xs ≡ xs ∷ []) (CutAt c xs)
+    go true h (Some n) q =
+        let k : n ≡ position_or_len (λ x. eqb x c) xs = cc in
+        let l = ltb-true _ _ h in
+        rw k (
+          l,
+          cut_is c xs ∙ (slice_split_first (λ x. eqb x c) xs 0 l ∙ ap (λ ws. take (position_or_len (λ x. eqb x c) xs) xs ∷ ws) (sym (cut_is c _))),
+          split_at_first (λ x. eqb x c) xs 0 l ∙ ap (λ y. take (position_or_len (λ x. eqb x c) xs) xs ++ (y ∷ drop (position_or_len (λ x. eqb x c) xs + 1) xs)) (eqb-true _ c (passes_at_first (λ x. eqb x c) xs 0 l)),
+        )
+    go true h None q = cc
+    go false h (Some n) q = cc
+    go false h None q = uncut c xs (ltb-false _ _ h)
 
-pub letter_stop : (w : List ℕ) (i : ℕ) → i < length w → (get_or w i 0 < 97) ⊎ (122 < get_or w i 0) → letters (drop i w) ≡ false
-letter_stop w i h o = let e = at_drop_more letters w i 0 h in e ∙ grind (arith, nat_tests)
+-- words of two lengths differ
+pub not_same : (w v : List ℕ) → (length w < length v) ⊎ (length v < length w) → same w v ≡ false
+not_same [] [] h = absurd (omega arith)
+not_same [] (y ∷ ys) h = refl
+not_same (x ∷ xs) [] h = refl
+not_same (x ∷ xs) (y ∷ ys) h = grind (arith, not_same xs ys)
 
-pub name_is : (w : List ℕ) (r : Bool) → 1 ≤ length w → length w ≤ 8 → letters w ≡ r → r ≡ name_form w
-name_is w r lo hi e = grind (arith, nat_tests)
+-- the parts of a part of a text are parts of it
+pub part_of : (text a z : List ℕ) (b : ℕ) → a ++ z ≡ take (length (a ++ z)) (drop b text)
+    → (a ≡ take (length a) (drop b text)) × (z ≡ take (length z) (drop (b + length a) text))
+part_of text a z b e =
+    let long = length-append a z in (
+      sym (take-append_seam a z) ∙ (ap (take (length a)) e ∙ take-take (length a) (length (a ++ z)) (drop b text) (omega arith)),
+      sym (drop-append_seam a z) ∙ (ap (drop (length a)) (e ∙ ap (λ n. take n (drop b text)) long)
+          ∙ (drop-take (length a) (length z) (drop b text) ∙ ap (take (length z)) (drop-drop (length a) b text))),
+    )
 
-pub name_not : (w : List ℕ) → (length w < 1) ⊎ (8 < length w) → false ≡ name_form w
-name_not w o = grind (arith, nat_tests)
+module _ (c : ℕ) (text : List ℕ) (whole front : Piece) where
+  -- the front of a piece lies where the piece does
+  pub lies_front : (rest : Option Piece) → Lies text whole → Parted c whole front rest → Lies text front
+  lies_front None h p = record { short = h.short; within = rw (p.byte, p.after) h.within; there = rw (p.byte, p.after) h.there }
+  lies_front (Some rest) h p =
+      let w = part_of text front.bytes.now (c ∷ rest.bytes.now) whole.byte (rw (← p.after.all) h.there) in
+      record {
+        short = h.short;
+        within = omega (arith, h.within, p.byte, ap length p.after.all, length-append front.bytes.now (c ∷ rest.bytes.now));
+        there = rw p.byte w.0;
+      }
 
--- the pieces of a whole text, and of a text that has more
-pub whole : (c : ℕ) (text : List ℕ) → pieces_from c text 0 ≡ cut c text
-whole c text = rw (le-leb 0 (length text) (omega arith)) refl
-
-no_piece : (xs : List (List ℕ)) → length xs ≡ 0 → xs ≡ []
-no_piece [] h = refl
-no_piece (x ∷ xs) h = absurd (omega arith)
-
-pub first_piece : (c : ℕ) (text : List ℕ) (first : ℕ) → Piece c text 0 first → cut c text ≡ take first text ∷ pieces_from c text (first + 1)
-first_piece c text first p =
-    let k : first - 0 ≡ first = omega arith in
-    sym (whole c text) ∙ (p.is ∙ ap (λ n. take n text ∷ pieces_from c text (first + 1)) k)
-
-pub two_pieces : (text : List ℕ) (first end : ℕ) → Piece 32 text 0 first → Piece 32 text (first + 1) end → length (cut 32 text) ≡ 2
-    → cut 32 text ≡ take first text ∷ (take (end - (first + 1)) (drop (first + 1) text) ∷ [])
-two_pieces text first end p q n =
-    let a = first_piece 32 text first p ∙ ap (λ t. take first text ∷ t) q.is in
-    let z = no_piece (pieces_from 32 text (end + 1)) (omega (arith, ap length a)) in
-    a ∙ ap (λ t. take first text ∷ (take (end - (first + 1)) (drop (first + 1) text) ∷ t)) z
-
--- the last piece has no line feed
-pub last_piece : (c : ℕ) (text : List ℕ) (start end : ℕ) → Piece c text start end → length text ≤ end
-    → cut c (drop start text) ≡ take (end - start) (drop start text) ∷ []
-last_piece c text start end p h =
-    let a : pieces_from c text start ≡ cut c (drop start text) = rw (le-leb start (length text) (omega (arith, p.from, p.within))) refl in
-    let b : pieces_from c text (end + 1) ≡ [] = rw (lt-leb (end + 1) (length text) (omega arith)) refl in
-    sym a ∙ (p.is ∙ ap (λ t. take (end - start) (drop start text) ∷ t) b)
+  -- and the rest of it behind the front
+  pub lies_rest : (rest : Piece) → Lies text whole → Parted c whole front (Some rest)
+      → (rest.byte + length rest.bytes.now ≤ length text) × (rest.bytes.now ≡ take (length rest.bytes.now) (drop rest.byte text))
+  lies_rest rest h p =
+      let w = part_of text front.bytes.now (c ∷ rest.bytes.now) whole.byte (rw (← p.after.all) h.there) in
+      let r = part_of text (c ∷ []) rest.bytes.now (whole.byte + length front.bytes.now) w.1 in (
+        omega (arith, h.within, p.after.byte, ap length p.after.all, length-append front.bytes.now (c ∷ rest.bytes.now)),
+        rw p.after.byte r.1,
+      )

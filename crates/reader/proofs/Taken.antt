@@ -1,208 +1,230 @@
 -- What a line that is taken in a section leaves behind, and what one with a fault does.
-use Rattle.std.proofs.Common.{◌≡◌, ℕ, zero, suc, ◌+◌, ◌-◌, ◌<◌, ◌≤◌, Bool, true, false, cond, leb, List, [], ◌∷◌, length, Some, None, Ok, Err, codes, Result, sym, refl, ap, ◌∙◌, subst, arith}
-use Rattle.std.proofs.lemmas.Bool.{le-leb, lt-leb}
-use Rattle.book.specs.Plain.{Plain}
-use Rattle.book.specs.Sound.{Sound}
+use Rattle.std.proofs.Common.{◌≡◌, ℕ, zero, suc, false, ◌+◌, ◌-◌, ◌≤◌, List, [], ◌∷◌, ◌++◌, length, map, Some, None, Ok, Err, codes, Option, Result, slice_set, sym, refl, ap, ◌∙◌, arith}
+use Rattle.std.proofs.lemmas.Bool.{le-leb}
+use Rattle.std.proofs.lemmas.List.{append-nil, length-append}
+use Rattle.book.specs.declared.parts.Bound.{Bound}
+use Rattle.book.specs.declared.parts.Label.{Label}
 use Rattle.book.specs.declared.parts.Kind.{Kind}
+use Rattle.book.specs.declared.parts.Kind.TheVariants.{Least, Most}
+use Rattle.book.specs.declared.parts.Refusal.{Refusal}
+use Rattle.book.specs.Plain.{Plain, unless, job_refusal, check_refusal, bound_refusal, add_bound}
+use Rattle.book.specs.Sound.{Sound}
 use Rattle.format.specs.declared.parts.Work.{Work}
-use Rattle.format.specs.declared.parts.FileFault.TheVariants.{WrongLine, NamesShort}
+use Rattle.format.specs.declared.parts.Work.TheVariants.{Job, Check}
 use Rattle.format.specs.declared.parts.Fault.{Fault}
 use Rattle.format.specs.declared.parts.NamePlace.{NamePlace}
-use Rattle.format.specs.Format.{JobLine, BoundLine, same}
-use Rattle.format.specs.Faults.{fault, fault_at, then, cut, line_name, work_of, kind_of, count_of, jobs_count, job_line, bound_line, job_of, bound_of, Reading, with_job_line, with_bound_line}
-use Rattle.format.proofs.Steps.{then_is, then_no}
-use Rattle.reader.specs.declared.section.Section.{Section}
-use Rattle.reader.specs.declared.section.Section.TheVariants.{Top, Jobs, Bounds}
-use Rattle.reader.specs.declared.section.Step.TheVariants.{CountJobs, Enter, CountBounds, Tie, Wrong}
-use Rattle.reader.specs.Words.{one_fewer}
-use Rattle.reader.specs.Names.{known_by, Stands}
-use Rattle.reader.specs.Entering.{JobEntered, JobRefused, BoundEntered, BoundRefused}
-use Rattle.reader.specs.Going.{Holds, Due, Taken, Faulty, heard, reached, finished}
-use Rattle.reader.proofs.Entered.{one_more, same_room, stands_after, jobs_stay, bound_stands}
-use Rattle.reader.proofs.Spelling.{Fits, Unfit}
+use Rattle.format.specs.Format.{JobLine, BoundLine, want_word, work_word, kind_word, job_words}
+use Rattle.format.specs.Entered.{add, call_job, label_in}
+use Rattle.format.specs.Faults.{booked, cut, line_name, if_work, work_of, count_of, jobs_count, job_line, bound_line, job_of, bound_of, Reading, with_job_line, with_bound_line}
+use Rattle.format.proofs.Steps.{no_fault, no_ok, same_err, then_is, then_no}
+use Rattle.format.proofs.Cuts.{joined, joined_cut}
+use Rattle.format.proofs.Lines.{work_complete, job_sound, bound_sound, count_sound}
+use Rattle.reader.specs.declared.piece.Piece.{Piece}
+use Rattle.reader.specs.declared.register.Entry.{Entry}
+use Rattle.reader.specs.declared.state.Section.{Section}
+use Rattle.reader.specs.declared.state.Section.TheVariants.{Top, Jobs, Bounds}
+use Rattle.reader.specs.Pieces.{Lies}
+use Rattle.reader.specs.Names.{slice, known_by, Stands}
+use Rattle.reader.specs.Says.{JobSaid, BoundSaid}
+use Rattle.reader.specs.Going.{Holds, Due, Taken, Faulty, finished, heard, reached}
+use Rattle.reader.proofs.Pieces.{part_of}
+use Rattle.reader.proofs.Entered.{JobEntered, BoundEntered, one_more, same_room, stands_after, jobs_stay, bound_stands}
 use Rattle.reader.proofs.Known.{job_holds, bound_holds}
 
--- a line that does not begin with `job` or `check` names no job
-no_name : (b : ℕ) (w : List ℕ) (more : List (List ℕ)) → work_of w ≡ None → line_name b (w ∷ more) ≡ []
-no_name b w [] n = refl
-no_name b w (v ∷ vs) n = rw n refl
+-- the word of a kind of bound enters no job
+no_work : (k : Kind) → work_of (kind_word k) ≡ None
+no_work Least = refl
+no_work Most = refl
 
--- a line that does not begin as it should is the wrong one
-wrong_count : (key : List ℕ) (l b : ℕ) (w : List ℕ) (more : List (List ℕ)) → same w key ≡ false → count_of key l b (w ∷ more) ≡ fault WrongLine l b
-wrong_count key l b w [] n = refl
-wrong_count key l b w (v ∷ []) n = rw n refl
-wrong_count key l b w (v ∷ (u ∷ us)) n = refl
-
-module _ (text : List ℕ) (l b : ℕ) (w : List ℕ) (more : List (List ℕ)) (ns : List NamePlace) (o : Plain) where
-  wrong_job : (s : Reading) → work_of w ≡ None → job_of s.known s.book l b (w ∷ more) ≡ fault WrongLine l b
-  wrong_job s n = then_no (job_line s.known l b (w ∷ more)) _ _ (go more)
-    where
-      go : (vs : List (List ℕ)) → job_line s.known l b (w ∷ vs) ≡ fault WrongLine l b
-      go [] = refl
-      go (v ∷ vs) = rw n refl
-
-  wrong_bound : (s : Reading) → kind_of w ≡ None → bound_of s.known s.book l b (w ∷ more) ≡ fault WrongLine l b
-  wrong_bound s n = then_no (bound_line s.known l b (w ∷ more)) _ _ (go more)
-    where
-      go : (vs : List (List ℕ)) → bound_line s.known l b (w ∷ vs) ≡ fault WrongLine l b
-      go [] = refl
-      go (v ∷ []) = refl
-      go (v ∷ (u ∷ [])) = refl
-      go (v ∷ (u ∷ (t ∷ []))) = rw n refl
-      go (v ∷ (u ∷ (t ∷ (r ∷ rs)))) = refl
-
-  wrong_heard : (x : Section) (s : Reading) → finished x ≡ false → Unfit x w → heard (length ns) x s l b (w ∷ more) ≡ fault WrongLine l b
-  wrong_heard Top s f u =
-      then_no (jobs_count (length ns) l b (w ∷ more)) _ _
-      (then_no (count_of (codes "jobs") l b (w ∷ more)) _ _ (wrong_count (codes "jobs") l b w more u))
-  wrong_heard (Jobs zero) s f u = then_no (count_of (codes "bounds") l b (w ∷ more)) _ _ (wrong_count (codes "bounds") l b w more u)
-  wrong_heard (Jobs (suc k)) s f u = then_no (job_of s.known s.book l b (w ∷ more)) _ _ (wrong_job s u)
-  wrong_heard (Bounds zero) s f u = let z : ◌≡◌ {A = ℕ} 0 1 = cc in absurd (omega arith)
-  wrong_heard (Bounds (suc k)) s f u = then_no (bound_of s.known s.book l b (w ∷ more)) _ _ (wrong_bound s u)
-
-module _ (text : List ℕ) (l b : ℕ) (ws : List (List ℕ)) (w : List ℕ) (more : List (List ℕ)) (split : ws ≡ w ∷ more) (ns : List NamePlace) (o : Plain) where
-  pub wrong_line : (x : Section) (e : Fault) → finished x ≡ false → Fits Wrong x w → e ≡ fault_at WrongLine l b → Faulty text l b ws x ns o e ns o
-  wrong_line x e f u q = record {
-    book = refl;
-    noted = refl;
-    says = λ s h. ap (heard (length ns) x s l b) split ∙ (wrong_heard text l b w more ns o x s f u ∙ ap Err (sym q));
+-- a line that says a count
+module _ (text : List ℕ) (l b : ℕ) (ws : List (List ℕ)) (ns : List NamePlace) (o : Plain) where
+  counted : (x x' : Section) → Stands text ns o → Due (length ns) x' (length o.jobs) → line_name b ws ≡ []
+      → ((s : Reading) → heard (length ns) x s l b ws ≡ Ok (reached x' s)) → Taken text l b ws x ns o x' ns o
+  counted x x' h due e says = record {
+    room = refl;
+    stands = h;
+    due = due;
+    noted = rw e refl;
+    more = omega (arith, ap length e);
+    says = λ s k. (s, k, says s);
   }
 
-  -- a line that says a count
-  unnamed : work_of w ≡ None → line_name b ws ≡ []
-  unnamed n = ap (line_name b) split ∙ no_name b w more n
+  pub jobs_counted : (n : ℕ) → Stands text ns o → Due (length ns) Top (length o.jobs) → Ok n ≡ count_of (codes "jobs") l b ws → n ≤ length ns
+      → Taken text l b ws Top ns o (Jobs n) ns o
+  jobs_counted n h due e few =
+      let counts : jobs_count (length ns) l b ws ≡ Ok n =
+      then_is (count_of (codes "jobs") l b ws) _ n (sym e) ∙ rw (le-leb n (length ns) few) refl in
+      counted Top (Jobs n) h (omega arith) (ap (line_name b) (count_sound (codes "jobs") l b ws n (sym e)).0)
+      (λ s. then_is (jobs_count (length ns) l b ws) _ n counts)
 
-  module _ (h : Stands text ns o) (x : Section) (x' : Section) where
-    counted : Due (length ns) x' (length o.jobs) → work_of w ≡ None
-        → ((s : Reading) → heard (length ns) x s l b ws ≡ Ok (reached x' s)) → Taken text l b ws x ns o x' ns o
-    counted due none says =
-        let e = unnamed none in
-        record {
-          room = refl;
-          stands = h;
-          due = due;
-          noted = rw e refl;
-          more = omega (arith, ap length e);
-          says = λ s k. (s, k, says s);
-        }
+  pub bounds_counted : (n : ℕ) → Stands text ns o → Ok n ≡ count_of (codes "bounds") l b ws → Taken text l b ws (Jobs 0) ns o (Bounds n) ns o
+  bounds_counted n h e =
+      counted (Jobs 0) (Bounds n) h tt (ap (line_name b) (count_sound (codes "bounds") l b ws n (sym e)).0)
+      (λ s. then_is (count_of (codes "bounds") l b ws) _ n (sym e))
 
-  module _ (x : Section) (f : Fits CountJobs x w) where
-    jobs_says : (n : ℕ) → Ok n ≡ count_of w l b ws → count_of (codes "jobs") l b ws ≡ Ok n
-    jobs_says n e = ap (λ v. count_of v l b ws) (sym f.1) ∙ sym e
+-- where the name of a job line stands
+front : (v : List ℕ) (vs : List (List ℕ)) → (z : List ℕ) × (joined 32 (v ∷ vs) ≡ v ++ z)
+front v [] = ([], sym (append-nil v))
+front v (u ∷ us) = (32 ∷ joined 32 (u ∷ us), refl)
 
-    pub jobs_counted : (x' : Section) (n : ℕ) → Stands text ns o → Due (length ns) x (length o.jobs) → Ok n ≡ count_of w l b ws → n ≤ length ns
-        → x' ≡ Jobs n → Taken text l b ws x ns o x' ns o
-    jobs_counted x' n h due e few q =
-        let few_jobs : length o.jobs ≤ 1 = subst (λ y. Due (length ns) y (length o.jobs)) f.0 due in
-        let counts : jobs_count (length ns) l b ws ≡ Ok n =
-        then_is (count_of (codes "jobs") l b ws) _ n (jobs_says n e) ∙ rw (le-leb n (length ns) few) refl in
-        subst (λ y. Taken text l b ws y ns o x' ns o) (sym f.0)
-        (subst (λ y. Taken text l b ws Top ns o y ns o) (sym q)
-        (counted h Top (Jobs n) (omega arith) (ap work_of f.1) (λ s. then_is (jobs_count (length ns) l b ws) _ n counts)))
+named_place : (text : List ℕ) (p : Piece) (j : JobLine) (n : NamePlace) → Lies text p → cut 32 p.bytes.now ≡ job_words j
+    → line_name p.byte (cut 32 p.bytes.now) ≡ n ∷ [] → (n.byte + n.length ≤ length text) × (slice text n ≡ j.name)
+named_place text p j n h e q =
+    let w = work_word j.work in
+    let (z, f) = front j.name (map want_word j.wants) in
+    let place : NamePlace = record { byte = p.byte + length w + 1; length = length j.name } in
+    let named : place ∷ [] ≡ n ∷ [] = sym (ap (λ x. if_work x place) (work_complete j.work)) ∙ (sym (ap (line_name p.byte) e) ∙ q) in
+    let same : place ≡ n = cc in
+    let all : p.bytes.now ≡ w ++ (32 ∷ (j.name ++ z)) =
+    sym (joined_cut 32 p.bytes.now) ∙ (ap (joined 32) e ∙ ap (λ t. w ++ (32 ∷ t)) f) in
+    let a = part_of text w (32 ∷ (j.name ++ z)) p.byte (rw (← all) h.there) in
+    let b = part_of text (32 ∷ []) (j.name ++ z) (p.byte + length w) a.1 in
+    let c = part_of text j.name z (p.byte + length w + 1) b.1 in
+    rw (← same) (
+      omega (arith, h.within, ap length all, length-append w (32 ∷ (j.name ++ z)), length-append j.name z),
+      sym c.0,
+    )
 
-    pub jobs_short : (n : ℕ) (e : Fault) → Ok n ≡ count_of w l b ws → length ns < n → e ≡ fault_at NamesShort l b → Faulty text l b ws x ns o e ns o
-    jobs_short n e c many q =
-        let counts : jobs_count (length ns) l b ws ≡ fault NamesShort l b =
-        then_is (count_of (codes "jobs") l b ws) _ n (jobs_says n c) ∙ rw (lt-leb n (length ns) many) refl in
-        subst (λ y. Faulty text l b ws y ns o e ns o) (sym f.0)
-        (record { book = refl; noted = refl; says = λ s h. then_no (jobs_count (length ns) l b ws) _ e (counts ∙ ap Err (sym q)) })
+-- what the book answers, as the line's
+abbrev pub answered : ℕ → ℕ → Result ℕ Refusal → Result (Unit {0}) Fault
+answered l b r = booked l b r tt
 
-    pub jobs_miscounted : (e : Fault) → Err e ≡ count_of w l b ws → Faulty text l b ws x ns o e ns o
-    jobs_miscounted e c =
-        let counts : jobs_count (length ns) l b ws ≡ Err e =
-        then_no (count_of (codes "jobs") l b ws) _ e (ap (λ v. count_of v l b ws) (sym f.1) ∙ sym c) in
-        subst (λ y. Faulty text l b ws y ns o e ns o) (sym f.0)
-        (record { book = refl; noted = refl; says = λ s h. then_no (jobs_count (length ns) l b ws) _ e counts })
+booked_ok : {B : Type 0} (l b : ℕ) (r : Result ℕ Refusal) (u : Unit {0}) (x : B) → answered l b r ≡ Ok u → booked l b r x ≡ Ok x
+booked_ok l b (Ok m) u x e = refl
+booked_ok l b (Err r) u x e = no_fault _ u e
 
-  module _ (x : Section) (f : Fits CountBounds x w) where
-    pub bounds_counted : (x' : Section) (n : ℕ) → Stands text ns o → Ok n ≡ count_of w l b ws → x' ≡ Bounds n → Taken text l b ws x ns o x' ns o
-    bounds_counted x' n h e q =
-        let counts : count_of (codes "bounds") l b ws ≡ Ok n = ap (λ v. count_of v l b ws) (sym f.1) ∙ sym e in
-        subst (λ y. Taken text l b ws y ns o x' ns o) (sym f.0)
-        (subst (λ y. Taken text l b ws (Jobs 0) ns o y ns o) (sym q)
-        (counted h (Jobs 0) (Bounds n) tt (ap work_of f.1) (λ s. then_is (count_of (codes "bounds") l b ws) _ n counts)))
+booked_err : {B : Type 0} (l b : ℕ) (r : Result ℕ Refusal) (e : Fault) (x : B) → answered l b r ≡ Err e → booked l b r x ≡ Err e
+booked_err l b (Ok m) e x q = no_ok tt e q
+booked_err l b (Err r) e x q = ap Err (same_err _ e q)
 
-    pub bounds_miscounted : (e : Fault) → Err e ≡ count_of w l b ws → Faulty text l b ws x ns o e ns o
-    bounds_miscounted e c =
-        let counts : count_of (codes "bounds") l b ws ≡ Err e = ap (λ v. count_of v l b ws) (sym f.1) ∙ sym c in
-        subst (λ y. Faulty text l b ws y ns o e ns o) (sym f.0)
-        (record { book = refl; noted = refl; says = λ s h. then_no (count_of (codes "bounds") l b ws) _ e counts })
+-- a call that is refused alters nothing
+unaltered : (m : Option Refusal) (a : ℕ) (after before : Plain) (l b : ℕ) (e : Fault)
+    → answered l b (unless m a after before).answer ≡ Err e → (unless m a after before).after ≡ before
+unaltered None a after before l b e q = no_ok tt e q
+unaltered (Some x) a after before l b e q = refl
 
--- a line of a job, a check or a bound
-module _ (text : List ℕ) (l b : ℕ) (bytes w : List ℕ) (ns : List NamePlace) (o : Plain) (ns' : List NamePlace) (o' : Plain) where
-  job_says : {r : Result JobLine Fault} (s : Reading) → Holds text ns o s → job_of (known_by text ns o) o l b (cut 32 bytes) ≡ r
-      → job_of s.known s.book l b (cut 32 bytes) ≡ r
-  job_says s h e =
-      ap (λ k. job_of k s.book l b (cut 32 bytes)) h.known ∙ (ap (λ k. job_of (known_by text ns o) k l b (cut 32 bytes)) h.book ∙ e)
+add_refused : (k : Work) (o : Plain) (label : Label) (l b : ℕ) (e : Fault) → answered l b (add k o label).answer ≡ Err e → (add k o label).after ≡ o
+add_refused Job o label l b e q = unaltered (job_refusal o label) _ _ o l b e q
+add_refused Check o label l b e q = unaltered (check_refusal o label) _ _ o l b e q
 
-  bound_says : {r : Result BoundLine Fault} (s : Reading) → Holds text ns o s → bound_of (known_by text ns o) o l b (cut 32 bytes) ≡ r
-      → bound_of s.known s.book l b (cut 32 bytes) ≡ r
-  bound_says s h e =
-      ap (λ k. bound_of k s.book l b (cut 32 bytes)) h.known ∙ (ap (λ k. bound_of (known_by text ns o) k l b (cut 32 bytes)) h.book ∙ e)
+-- a line of the jobs section, with n of them due
+module _ (text : List ℕ) (p : Piece) (ns : List NamePlace) (o : Plain) (e : Entry)
+    (j : JobSaid (known_by text ns o) p.line p.byte (cut 32 p.bytes.now) e) where
+  call : call_job (known_by text ns o) o j.line ≡ add e.work o e.label
+  call = ap (λ k. add k o (label_in (known_by text ns o) j.line.wants)) j.work ∙ ap (add e.work o) j.label
 
-  fewer : (f : ℕ → Section) (n : ℕ) → f (suc n - 1) ≡ f n
-  fewer f n = ap f (omega arith)
+  job_says : {r : Result JobLine Fault} (s : Reading) → Holds text ns o s → job_of (known_by text ns o) o p.line p.byte (cut 32 p.bytes.now) ≡ r
+      → job_of s.known s.book p.line p.byte (cut 32 p.bytes.now) ≡ r
+  job_says s h q =
+      ap (λ k. job_of k s.book p.line p.byte (cut 32 p.bytes.now)) h.known
+      ∙ (ap (λ k. job_of (known_by text ns o) k p.line p.byte (cut 32 p.bytes.now)) h.book ∙ q)
 
-  module _ (k : Work) (x : Section) (f : Fits (Enter k) x w) where
-    pub job_taken : (x' : Section) → x' ≡ one_fewer x → Sound o → Stands text ns o → Due (length ns) x (length o.jobs)
-        → JobEntered text l b bytes ns o ns' o' → Taken text l b (cut 32 bytes) x ns o x' ns' o'
-    job_taken x' q s h due j =
-        let n = f.0 in
-        let due_now : length o.jobs + suc n ≤ length ns + 1 = subst (λ y. Due (length ns) y (length o.jobs)) f.1 due in
-        let room : length o.jobs ≤ length ns = omega arith in
-        let one = one_more text l b bytes ns o ns' o' j s h room in
-        let one_name = ap length j.named in
-        subst (λ y. Taken text l b (cut 32 bytes) y ns o x' ns' o') (sym f.1)
-        (subst (λ y. Taken text l b (cut 32 bytes) (Jobs (suc n)) ns o y ns' o') (sym (q ∙ (ap one_fewer f.1 ∙ fewer Jobs n)))
-        (record {
-          room = same_room text l b bytes ns o ns' o' j s h room;
-          stands = stands_after text l b bytes ns o ns' o' j s h room;
-          due = omega (arith, one);
-          noted = rw j.named j.noted;
-          more = omega (arith, one, one_name);
-          says = λ t k. (
-            with_job_line t j.line,
-            job_holds text l b bytes ns o ns' o' j s h room t k,
-            then_is (job_of t.known t.book l b (cut 32 bytes)) _ j.line (job_says t k j.says),
-          );
-        }))
+  asked : job_of (known_by text ns o) o p.line p.byte (cut 32 p.bytes.now) ≡ booked p.line p.byte (add e.work o e.label).answer j.line
+  asked = then_is (job_line (known_by text ns o) p.line p.byte (cut 32 p.bytes.now)) _ j.line j.says ∙ ap (λ r. booked p.line p.byte r.answer j.line) call
 
-    pub job_faulty : (e : Fault) → JobRefused text l b bytes ns o e ns' o' → Faulty text l b (cut 32 bytes) x ns o e ns' o'
-    job_faulty e j =
-        subst (λ y. Faulty text l b (cut 32 bytes) y ns o e ns' o') (sym f.1)
-        (record {
-          book = j.book;
-          noted = j.noted;
-          says = λ t k. then_no (job_of t.known t.book l b (cut 32 bytes)) _ e (job_says t k j.says);
-        })
+  entered : (u : Unit {0}) (ns' : List NamePlace) (o' : Plain) → Lies text p → answered p.line p.byte (add e.work o e.label).answer ≡ Ok u
+      → o' ≡ (add e.work o e.label).after → ns' ≡ slice_set ns (length o.jobs - 1) e.name
+      → JobEntered text p.line p.byte (cut 32 p.bytes.now) ns o ns' o'
+  entered u ns' o' h q a n =
+      let w = job_sound (known_by text ns o) p.line p.byte (cut 32 p.bytes.now) j.line j.says in
+      let at = named_place text p j.line e.name h w.0 j.name in
+      record {
+        line = j.line;
+        place = e.name;
+        says = asked ∙ booked_ok p.line p.byte (add e.work o e.label).answer u j.line q;
+        book = a ∙ ap (λ r. r.after) (sym call);
+        named = j.name;
+        inside = at.0;
+        spelled = at.1;
+        noted = n;
+      }
 
-  module _ (k : Kind) (x : Section) (f : Fits (Tie k) x w) where
-    pub bound_taken : (x' : Section) (more : List (List ℕ)) → x' ≡ one_fewer x → cut 32 bytes ≡ w ∷ more → Stands text ns o
-        → BoundEntered text l b bytes ns o o' → Taken text l b (cut 32 bytes) x ns o x' ns o'
-    bound_taken x' more q split h j =
-        let n = f.0 in
-        let same_jobs = ap length (jobs_stay text l b bytes ns o ns o' j h) in
-        let e = ap (line_name b) split ∙ no_name b w more f.3 in
-        subst (λ y. Taken text l b (cut 32 bytes) y ns o x' ns o') (sym f.1)
-        (subst (λ y. Taken text l b (cut 32 bytes) (Bounds (suc n)) ns o y ns o') (sym (q ∙ (ap one_fewer f.1 ∙ fewer Bounds n)))
-        (record {
-          room = refl;
-          stands = bound_stands text l b bytes ns o ns o' j h;
-          due = tt;
-          noted = rw e refl;
-          more = omega (arith, same_jobs, ap length e);
-          says = λ t m. (
-            with_bound_line t j.line,
-            bound_holds text l b bytes ns o ns o' j h t m,
-            then_is (bound_of t.known t.book l b (cut 32 bytes)) _ j.line (bound_says t m j.says),
-          );
-        }))
+  pub job_taken : (n : ℕ) (u : Unit {0}) (ns' : List NamePlace) (o' : Plain) → 1 ≤ n → Lies text p → Sound o → Stands text ns o
+      → Due (length ns) (Jobs n) (length o.jobs) → answered p.line p.byte (add e.work o e.label).answer ≡ Ok u → o' ≡ (add e.work o e.label).after
+      → ns' ≡ slice_set ns (length o.jobs - 1) e.name → Taken text p.line p.byte (cut 32 p.bytes.now) (Jobs n) ns o (Jobs (n - 1)) ns' o'
+  unfolding entered
+  job_taken zero u ns' o' some h s st due q a n = absurd (omega arith)
+  job_taken (suc k) u ns' o' some h s st due q a n =
+      let x = entered u ns' o' h q a n in
+      let room : length o.jobs ≤ length ns = omega arith in
+      let one = one_more text p.line p.byte (cut 32 p.bytes.now) ns o ns' o' x s st room in
+      let one_name = ap length x.named in
+      let fewer : suc k - 1 ≡ k = omega arith in
+      rw fewer (record {
+        room = same_room text p.line p.byte (cut 32 p.bytes.now) ns o ns' o' x s st room;
+        stands = stands_after text p.line p.byte (cut 32 p.bytes.now) ns o ns' o' x s st room;
+        due = omega (arith, one);
+        noted = rw x.named n;
+        more = omega (arith, one, one_name);
+        says = λ t h. (
+          with_job_line t x.line,
+          job_holds text p.line p.byte (cut 32 p.bytes.now) ns o ns' o' x s st room t h,
+          then_is (job_of t.known t.book p.line p.byte (cut 32 p.bytes.now)) _ x.line (job_says t h x.says),
+        );
+      })
 
-    pub bound_faulty : (e : Fault) → BoundRefused text l b bytes ns o e o' → Faulty text l b (cut 32 bytes) x ns o e ns o'
-    bound_faulty e j =
-        subst (λ y. Faulty text l b (cut 32 bytes) y ns o e ns o') (sym f.1)
-        (record {
-          book = j.book;
-          noted = refl;
-          says = λ t m. then_no (bound_of t.known t.book l b (cut 32 bytes)) _ e (bound_says t m j.says);
-        })
+  pub job_faulty : (n : ℕ) (f : Fault) (o' : Plain) → 1 ≤ n → answered p.line p.byte (add e.work o e.label).answer ≡ Err f
+      → o' ≡ (add e.work o e.label).after → Faulty text p.line p.byte (cut 32 p.bytes.now) (Jobs n) ns o f ns o'
+  job_faulty zero f o' some q a = absurd (omega arith)
+  job_faulty (suc k) f o' some q a =
+      let x = asked ∙ booked_err p.line p.byte (add e.work o e.label).answer f j.line q in
+      record {
+        book = a ∙ add_refused e.work o e.label p.line p.byte f q;
+        noted = refl;
+        says = λ t h. then_no (job_of t.known t.book p.line p.byte (cut 32 p.bytes.now)) _ _ (job_says t h x);
+      }
+
+-- a line is due where the last one has not been read
+pub some_due : (n : ℕ) → finished (Bounds n) ≡ false → 1 ≤ n
+some_due zero e = cc
+some_due (suc n) e = omega arith
+
+-- a line of the bounds section, with n of them due
+module _ (text : List ℕ) (l b : ℕ) (ws : List (List ℕ)) (ns : List NamePlace) (o : Plain) (x : Bound)
+    (j : BoundSaid (known_by text ns o) l b ws x) where
+  bound_says : {r : Result BoundLine Fault} (s : Reading) → Holds text ns o s → bound_of (known_by text ns o) o l b ws ≡ r
+      → bound_of s.known s.book l b ws ≡ r
+  bound_says s h q = ap (λ k. bound_of k s.book l b ws) h.known ∙ (ap (λ k. bound_of (known_by text ns o) k l b ws) h.book ∙ q)
+
+  bound_asked : bound_of (known_by text ns o) o l b ws ≡ booked l b (add_bound o x).answer j.line
+  bound_asked = then_is (bound_line (known_by text ns o) l b ws) _ j.line j.says ∙ ap (λ y. booked l b (add_bound o y).answer j.line) j.bound
+
+  unnamed : line_name b ws ≡ []
+  unnamed =
+      let w = (bound_sound (known_by text ns o) l b ws j.line j.says).0 in
+      ap (line_name b) w ∙ rw (no_work j.line.kind) refl
+
+  pub bound_taken : (n : ℕ) (u : Unit {0}) (o' : Plain) → 1 ≤ n → Stands text ns o → answered l b (add_bound o x).answer ≡ Ok u → o' ≡ (add_bound o x).after
+      → Taken text l b ws (Bounds n) ns o (Bounds (n - 1)) ns o'
+  bound_taken zero u o' some st q a = absurd (omega arith)
+  bound_taken (suc k) u o' some st q a =
+      let y : BoundEntered text l b ws ns o o' = record {
+        line = j.line;
+        says = bound_asked ∙ booked_ok l b (add_bound o x).answer u j.line q;
+        book = a ∙ ap (λ z. (add_bound o z).after) (sym j.bound);
+      } in
+      let same_jobs = ap length (jobs_stay text l b ws ns o ns o' y st) in
+      let fewer : suc k - 1 ≡ k = omega arith in
+      rw fewer (record {
+        room = refl;
+        stands = bound_stands text l b ws ns o ns o' y st;
+        due = tt;
+        noted = rw unnamed refl;
+        more = omega (arith, same_jobs, ap length unnamed);
+        says = λ t h. (
+          with_bound_line t y.line,
+          bound_holds text l b ws ns o ns o' y st t h,
+          then_is (bound_of t.known t.book l b ws) _ y.line (bound_says t h y.says),
+        );
+      })
+
+  pub bound_faulty : (n : ℕ) (f : Fault) (o' : Plain) → 1 ≤ n → answered l b (add_bound o x).answer ≡ Err f → o' ≡ (add_bound o x).after
+      → Faulty text l b ws (Bounds n) ns o f ns o'
+  bound_faulty zero f o' some q a = absurd (omega arith)
+  bound_faulty (suc k) f o' some q a =
+      let y = bound_asked ∙ booked_err l b (add_bound o x).answer f j.line q in
+      record {
+        book = a ∙ unaltered (bound_refusal o x) _ _ o l b f q;
+        noted = refl;
+        says = λ t h. then_no (bound_of t.known t.book l b ws) _ _ (bound_says t h y);
+      }

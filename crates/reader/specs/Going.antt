@@ -1,26 +1,25 @@
 -- A reader's way through a text.
-use Rattle.std.specs.Prelude.{◌≡◌, ℕ, zero, suc, ◌+◌, ◌-◌, ◌<◌, ◌≤◌, Bool, true, false, List, [], ◌∷◌, ◌++◌, length, drop, Ok, Err, codes, Result, ◌==◌, slice_set}
+use Rattle.std.specs.Prelude.{◌≡◌, ℕ, zero, suc, ◌+◌, ◌-◌, ◌≤◌, Bool, false, List, [], ◌∷◌, length, Ok, Err, codes, Result, ◌==◌, slice_set}
 use Rattle.book.specs.Plain.{Plain}
 use Rattle.format.specs.declared.parts.FileFault.TheVariants.{Trailing}
 use Rattle.format.specs.declared.parts.Fault.{Fault}
 use Rattle.format.specs.declared.parts.NamePlace.{NamePlace}
-use Rattle.format.specs.Faults.{fault, then, cut, line_in, line_name, job_names, count_of, jobs_count, job_of, bound_of}
-use Rattle.format.specs.Faults.{Rest, Reading, with_job_line, with_bound_line, from_top, from_jobs, from_bounds}
-use Rattle.reader.specs.declared.section.Section.{Section}
-use Rattle.reader.specs.declared.section.Section.TheVariants.{Top, Jobs, Bounds}
+use Rattle.format.specs.Faults.{fault, then, cut, line_in, line_name, count_of, jobs_count, job_of, bound_of}
+use Rattle.format.specs.Faults.{Reading, with_job_line, with_bound_line}
+use Rattle.reader.specs.declared.state.Section.{Section}
+use Rattle.reader.specs.declared.state.Section.TheVariants.{Top, Jobs, Bounds}
 use Rattle.reader.specs.declared.state.Reader.{Reader}
 use Rattle.reader.specs.Names.{known_by, Stands}
-use Rattle.reader.specs.Entering.{Lies}
+use Rattle.reader.specs.declared.piece.Piece.{Piece}
+use Rattle.reader.specs.Pieces.{Lies}
 
--- what a reader has before it
-abbrev pub rest : Reader → Rest
-rest r = record { line = r.line; byte = r.at; left = cut 10 (drop r.at r.text.now) }
-
--- what that gives, by the section reached
-abbrev pub going : ℕ → Section → Reading → Rest → Result Reading Fault
-going room Top s p = from_top room s p
-going room (Jobs k) s p = from_jobs k s p
-going room (Bounds k) s p = from_bounds k s p
+-- a reader stands at the front of a text
+pub record Begun (whole : List ℕ) (r : Reader) : Type 0 where
+  pub text : r.text.now ≡ whole
+  pub rest : r.rest.bytes.now ≡ whole
+  pub line : r.rest.line ≡ 1
+  pub byte : r.rest.byte ≡ 0
+  pub section : r.section ≡ Top
 
 -- the section after a line, and what has been read then
 pub record Reached : Type 0 where
@@ -77,14 +76,14 @@ module _ (text : List ℕ) (l b : ℕ) (ws : List (List ℕ)) (x : Section) (ns 
     pub says : (s : Reading) → Holds text ns o s → heard (length ns) x s l b ws ≡ Err e
 
 -- the next line has its line feed, and the reader has moved past it
-pub record LineThere (r r' : Reader) (bytes : List ℕ) (number byte : ℕ) : Type 0 where
-  pub numbered : number ≡ r.line
-  pub begun : byte ≡ r.at
-  pub lies : Lies r.text.now bytes byte
-  pub left : cut 10 (drop r.at r.text.now) ≡ bytes ∷ cut 10 (drop r'.at r.text.now)
-  pub onward : r'.at ≡ r.at + length bytes + 1
-  pub counted : r'.line ≡ r.line + 1
+pub record LineThere (r r' : Reader) (line : Piece) : Type 0 where
+  pub numbered : line.line ≡ r.rest.line
+  pub begun : line.byte ≡ r.rest.byte
+  pub lies : Lies r.text.now line
+  pub left : cut 10 r.rest.bytes.now ≡ line.bytes.now ∷ cut 10 r'.rest.bytes.now
+  pub onward : r'.rest.byte ≡ r.rest.byte + length line.bytes.now + 1
+  pub counted : r'.rest.line ≡ r.rest.line + 1
 
 -- it has none
 pub record NoLine (r : Reader) (e : Fault) : Type 0 where
-  pub says : line_in r.line r.at (cut 10 (drop r.at r.text.now)) ≡ Err e
+  pub says : line_in r.rest.line r.rest.byte (cut 10 r.rest.bytes.now) ≡ Err e

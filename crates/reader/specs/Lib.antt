@@ -1,6 +1,4 @@
-pub mod Pieces
 pub mod Names
-pub mod Words
+pub mod Pieces
 pub mod Says
-pub mod Entering
 pub mod Going

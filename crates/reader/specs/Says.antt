@@ -1,27 +1,45 @@
--- What the parts of a line say.
-use Rattle.std.specs.Prelude.{ℕ, ◌<◌, List, Some, None, Ok, Err, Option, Result}
+-- What lines and their words say.
+use Rattle.std.specs.Prelude.{◌≡◌, ℕ, ◌<◌, List, [], ◌∷◌, Some, None, Ok, Option, Result}
+use Rattle.book.specs.declared.parts.Bound.{Bound}
 use Rattle.book.specs.declared.parts.Label.{Label}
-use Rattle.book.specs.declared.parts.Refusal.{Refusal}
-use Rattle.format.specs.declared.parts.Reason.{Reason}
-use Rattle.format.specs.declared.parts.Reason.TheVariants.{Book}
+use Rattle.book.specs.Held.{held}
 use Rattle.format.specs.declared.parts.Fault.{Fault}
-use Rattle.format.specs.Format.{Known, check_number}
-use Rattle.format.specs.Entered.{or_zero, wanting, label_from}
-use Rattle.format.specs.Faults.{then, want_of, wants_of}
+use Rattle.format.specs.Format.{Known, JobLine, BoundLine, check_number}
+use Rattle.format.specs.Entered.{or_zero, wanting, label_from, label_in, bound_in}
+use Rattle.format.specs.Faults.{then, cut, want_of, wants_of, job_line, bound_line, line_name}
+use Rattle.reader.specs.declared.piece.Piece.{Piece}
+use Rattle.reader.specs.declared.register.Register.{Register}
+use Rattle.reader.specs.declared.register.Entry.{Entry}
+use Rattle.reader.specs.Names.{known_by}
+
+-- the jobs that a register knows
+abbrev pub knows : Register → List Known
+knows r = known_by r.text.now r.names.now (held r.book.now)
 
 -- a number found is below n
 abbrev pub InList : Option ℕ → ℕ → Type 0
 InList None n = Unit {0}
 InList (Some c) n = c < n
 
--- a label after one more label word, and after several
+-- a label after one more label word, and after those in a piece
 abbrev pub want_in : Label → List Known → ℕ → ℕ → List ℕ → Result Label Fault
 want_in label ks l b w = then (want_of ks l b w) (λ a. Ok (wanting label a.sign (or_zero (check_number ks a.name))))
 
-abbrev pub labelled : Label → List Known → ℕ → ℕ → List (List ℕ) → Result Label Fault
-labelled label ks l b ws = then (wants_of ks l b ws) (λ xs. Ok (label_from label ks xs))
+abbrev pub labelled : Label → List Known → Option Piece → Result Label Fault
+labelled label ks None = Ok label
+labelled label ks (Some p) = then (wants_of ks p.line p.byte (cut 32 p.bytes.now)) (λ xs. Ok (label_from label ks xs))
 
--- a refusal, as a fault's reason
-abbrev pub in_book : Result ℕ Refusal → Result ℕ Reason
-in_book (Ok n) = Ok n
-in_book (Err r) = Err (Book r)
+module _ (ks : List Known) (l b : ℕ) (ws : List (List ℕ)) where
+  -- a line of the jobs section enters this
+  pub record JobSaid (e : Entry) : Type 0 where
+    pub line : JobLine
+    pub says : job_line ks l b ws ≡ Ok line
+    pub work : line.work ≡ e.work
+    pub label : label_in ks line.wants ≡ e.label
+    pub name : line_name b ws ≡ e.name ∷ []
+
+  -- a line of the bounds section says this
+  pub record BoundSaid (x : Bound) : Type 0 where
+    pub line : BoundLine
+    pub says : bound_line ks l b ws ≡ Ok line
+    pub bound : bound_in ks line ≡ x

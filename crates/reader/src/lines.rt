@@ -1,107 +1,56 @@
 // What lines say, from their words.
-ghost use Rattle.std.specs.Prelude.{◌≡◌, ◌+◌, ◌<◌, ◌≤◌, length, take, Ok, Err, MatchResult};
+ghost use Rattle.std.specs.Prelude.{◌≡◌, ◌<◌, length, Ok, Err, MatchResult};
 ghost use Rattle.book.specs.Held.{held};
 ghost use Rattle.book.specs.Plain.{empty_label};
 ghost use Rattle.format.specs.Format.{job_number, check_number};
 ghost use Rattle.format.specs.Entered.{wanting as wanted};
-ghost use Rattle.format.specs.Faults.{new_as, named_as, count_of, sign_of, cut};
-ghost use Rattle.reader.specs.Pieces.{Piece, pieces_from};
-ghost use Rattle.reader.specs.Names.{Stands, known_by};
-ghost use Rattle.reader.specs.Says.{InList, want_in, labelled};
+ghost use Rattle.format.specs.Faults.{count_of, work_of, kind_of, sign_of, new_name, job_named, check_named, job_line, bound_line, cut};
+ghost use Rattle.reader.specs.Says.{InList, want_in, labelled, JobSaid, BoundSaid, knows};
 
 use crate::names::{job_number, reserved};
-use crate::place::{Line, fault};
-use crate::scan::{is_name, natural, piece_end, word_count};
-use book::keeping::Book;
-use book::parts::Label;
-use format::parts::{Fault, FileFault, NamePlace, Sign};
+use crate::piece::Piece;
+use crate::register::{Entry, Register};
+use crate::scan::{is_name, minutes, natural};
+use crate::words::Words;
+use book::parts::{Bound, Kind, Label};
+use format::parts::{Fault, FileFault, NamePlace, Sign, Work};
 
-// Judges a new name, where a job of that name was found or not.
-pub(crate) fn new_name(
-    word: &[u8],
-    found: Option<usize>,
-    line: usize,
-    byte: usize,
-) -> Result<(), Fault>
-    ensures { MatchResult result
-        (λ _. new_as found line byte word.now ≡ Ok word.now)
-        (λ e. new_as found line byte word.now ≡ Err e) }
+// The number after a line's first word, which must be the key.
+pub(crate) fn count(line: Piece, key: &[u8]) -> Result<usize, Fault>
+    ensures { result ≡ count_of key.now line.entry.line line.entry.byte (cut 32 line.entry.bytes.now) }
 {
-    if !is_name(word) {
-        return Err(fault(FileFault::BadName, line, byte));
+    let mut words = line.words();
+    let (Some(first), Some(number), None) = (words.next(), words.next(), words.next()) else {
+        return Err(line.fault(FileFault::WrongLine));
+    };
+    if first.bytes != key {
+        return Err(line.fault(FileFault::WrongLine));
     }
-    if let Some(_) = found {
-        return Err(fault(FileFault::NameTaken, line, byte));
-    }
-    if reserved(word) {
-        return Err(fault(FileFault::NameReserved, line, byte));
-    }
-    Ok(())
+    let n = natural(number.bytes, 2).ok_or(number.fault(FileFault::NotANumber))?;
+    Ok(n as usize)
 }
 
-// Judges a name that some job must have.
-pub(crate) fn known_name(
-    word: &[u8],
-    found: Option<usize>,
-    line: usize,
-    byte: usize,
-) -> Result<usize, Fault>
-    ensures { result ≡ named_as found line byte word.now }
+// What a word enters.
+#[tactic(auto, using(std::proofs::lemmas::Grind::common_steps, crate::proofs::Pieces::not_same))]
+fn work_of(word: &[u8]) -> Option<Work>
+    ensures { result ≡ work_of word.now }
 {
-    if !is_name(word) {
-        return Err(fault(FileFault::BadName, line, byte));
-    }
-    match found {
-        Some(n) => Ok(n),
-        None => Err(fault(FileFault::UnknownName, line, byte)),
+    match word {
+        b"job" => Some(Work::Job),
+        b"check" => Some(Work::Check),
+        _ => None,
     }
 }
 
-// The number after a line's first word, which ends at `first`.
-pub(crate) fn count(line: Line, first: usize) -> Result<usize, Fault>
-    requires inside { line.byte + length line.bytes.now ≤ 8192 }
-    requires first { Piece 32 line.bytes.now 0 first }
-    ensures { result ≡ count_of (take first line.entry.bytes.now) line.entry.number line.entry.byte (cut 32 line.entry.bytes.now) }
+// What kind of bound a word says.
+#[tactic(auto, using(std::proofs::lemmas::Grind::common_steps, crate::proofs::Pieces::not_same))]
+fn kind_of(word: &[u8]) -> Option<Kind>
+    ensures { result ≡ kind_of word.now }
 {
-    let bytes = line.bytes;
-    if word_count(bytes) != 2 {
-        return Err(fault(FileFault::WrongLine, line.number, line.byte));
-    }
-    let start = first + 1;
-    let end = piece_end(bytes, start, b' ');
-    match natural(&bytes[start..end], 2) {
-        Some(n) => Ok(n as usize),
-        None => Err(fault(FileFault::NotANumber, line.number, line.byte + start)),
-    }
-}
-
-// The number of the job that has this name.
-pub(crate) fn find_job(text: &[u8], names: &[NamePlace], book: &Book, word: &[u8]) -> Option<usize>
-    requires stands { Stands text.now names.now (held book.now) }
-    ensures value { result ≡ job_number (known_by text.now names.now (held book.now)) word.now }
-    ensures within { InList result (length (held book.now).jobs) }
-{
-    let count = book.jobs().len() - 1;
-    job_number(text, &names[0..count], word)
-}
-
-// The number of the check that has this name.
-pub(crate) fn find_check(
-    text: &[u8],
-    names: &[NamePlace],
-    book: &Book,
-    word: &[u8],
-) -> Option<usize>
-    requires stands { Stands text.now names.now (held book.now) }
-    ensures value { result ≡ check_number (known_by text.now names.now (held book.now)) word.now }
-    ensures few { InList result 8 }
-{
-    match find_job(text, names, book, word) {
-        Some(j) => match book.jobs()[j].check {
-            Some(c) => Some(c as usize),
-            None => None,
-        },
-        None => None,
+    match word {
+        b"least" => Some(Kind::Least),
+        b"most" => Some(Kind::Most),
+        _ => None,
     }
 }
 
@@ -109,12 +58,10 @@ pub(crate) fn find_check(
 fn sign_of(byte: u8) -> Option<Sign>
     ensures { result ≡ sign_of byte }
 {
-    if byte == b'+' {
-        Some(Sign::Plus)
-    } else if byte == b'-' {
-        Some(Sign::Minus)
-    } else {
-        None
+    match byte {
+        b'+' => Some(Sign::Plus),
+        b'-' => Some(Sign::Minus),
+        _ => None,
     }
 }
 
@@ -136,62 +83,130 @@ fn wanting(label: Label, sign: Sign, c: usize) -> Label
     }
 }
 
-// A label with one more label word taken in; `at` is the word's place.
-fn want(
-    text: &[u8],
-    names: &[NamePlace],
-    book: &Book,
-    word: &[u8],
-    line: usize,
-    at: usize,
-    label: Label,
-) -> Result<Label, Fault>
-    requires stands { Stands text.now names.now (held book.now) }
-    ensures { result ≡ want_in label (known_by text.now names.now (held book.now)) line at word.now }
-{
-    if word.len() < 1 {
-        return Err(fault(FileFault::BadName, line, at));
+impl Register<'_> {
+    // The number of the job that has this name.
+    fn find_job(&self, name: &[u8]) -> Option<usize>
+        ensures value { result ≡ job_number (knows self.now) name.now }
+        ensures within { InList result (length (held self.now.book.now).jobs) }
+    {
+        let count = self.book.jobs().len() - 1;
+        job_number(self.text, &self.names[..count], name)
     }
-    let sign = match sign_of(word[0]) {
-        Some(s) => s,
-        None => return Err(fault(FileFault::BadName, line, at)),
-    };
-    let name = &word[1..];
-    let found = find_check(text, names, book, name);
-    let c = known_name(name, found, line, at)?;
-    Ok(wanting(label, sign, c))
-}
 
-// The label that a line's words from `start` on give.
-pub(crate) fn label(
-    text: &[u8],
-    names: &[NamePlace],
-    book: &Book,
-    line: Line,
-    start: usize,
-) -> Result<Label, Fault>
-    requires stands { Stands text.now names.now (held book.now) }
-    requires begun { start ≤ length line.bytes.now + 1 }
-    requires inside { line.byte + length line.bytes.now ≤ 8192 }
-    ensures { result ≡ labelled empty_label
-        (known_by text.now names.now (held book.now))
-        line.entry.number (line.entry.byte + start) (pieces_from 32 line.entry.bytes.now start) }
-{
-    let bytes = line.bytes;
-    let mut label = Label { yes: 0, no: 0 };
-    let mut at = start;
-    while at <= bytes.len() {
-        let end = piece_end(bytes, at, b' ');
-        label = want(
-            text,
-            names,
-            book,
-            &bytes[at..end],
-            line.number,
-            line.byte + at,
-            label,
-        )?;
-        at = end + 1;
+    // The number of the check that has this name.
+    fn find_check(&self, name: &[u8]) -> Option<usize>
+        ensures value { result ≡ check_number (knows self.now) name.now }
+        ensures few { InList result 8 }
+    {
+        let job = self.find_job(name)?;
+        Some(usize::from(self.book.jobs()[job].check?))
     }
-    Ok(label)
+
+    // Judges a new name.
+    fn new_name(&self, word: Piece) -> Result<(), Fault>
+        ensures { MatchResult result
+            (λ _. new_name (knows self.now) word.entry.line word.entry.byte word.entry.bytes.now ≡ Ok word.entry.bytes.now)
+            (λ e. new_name (knows self.now) word.entry.line word.entry.byte word.entry.bytes.now ≡ Err e) }
+    {
+        if !is_name(word.bytes) {
+            return Err(word.fault(FileFault::BadName));
+        }
+        if self.find_job(word.bytes).is_some() {
+            return Err(word.fault(FileFault::NameTaken));
+        }
+        if reserved(word.bytes) {
+            return Err(word.fault(FileFault::NameReserved));
+        }
+        Ok(())
+    }
+
+    // The job that a word names.
+    fn job_named(&self, word: Piece) -> Result<usize, Fault>
+        ensures { result ≡ job_named (knows self.now) word.entry.line word.entry.byte word.entry.bytes.now }
+    {
+        if !is_name(word.bytes) {
+            return Err(word.fault(FileFault::BadName));
+        }
+        self.find_job(word.bytes)
+            .ok_or(word.fault(FileFault::UnknownName))
+    }
+
+    // A label with one more label word taken in.
+    fn want(&self, label: Label, word: Piece) -> Result<Label, Fault>
+        ensures { result ≡ want_in label (knows self.now) word.entry.line word.entry.byte word.entry.bytes.now }
+    {
+        let Some((first, name)) = word.bytes.split_first() else {
+            return Err(word.fault(FileFault::BadName));
+        };
+        let sign = sign_of(*first).ok_or(word.fault(FileFault::BadName))?;
+        if !is_name(name) {
+            return Err(word.fault(FileFault::BadName));
+        }
+        match self.find_check(name) {
+            Some(c) => Ok(wanting(label, sign, c)),
+            None => Err(word.fault(FileFault::UnknownName)),
+        }
+    }
+
+    // The label that the words left of a line give.
+    fn label(&self, words: Words) -> Result<Label, Fault>
+        ensures { result ≡ labelled empty_label (knows self.now) words.entry.rest }
+    {
+        let mut label = Label { yes: 0, no: 0 };
+        for word in words {
+            label = self.want(label, word)?;
+        }
+        Ok(label)
+    }
+
+    // What a line of the jobs section enters.
+    pub(crate) fn entry(&self, line: Piece) -> Result<Entry, Fault>
+        ensures { MatchResult result
+            (JobSaid (knows self.now) line.entry.line line.entry.byte (cut 32 line.entry.bytes.now))
+            (λ e. job_line (knows self.now) line.entry.line line.entry.byte (cut 32 line.entry.bytes.now) ≡ Err e) }
+    {
+        let mut words = line.words();
+        let (Some(first), Some(name)) = (words.next(), words.next()) else {
+            return Err(line.fault(FileFault::WrongLine));
+        };
+        let work = work_of(first.bytes).ok_or(line.fault(FileFault::WrongLine))?;
+        self.new_name(name)?;
+        let label = self.label(words)?;
+        Ok(Entry {
+            work,
+            name: NamePlace {
+                byte: name.byte,
+                length: name.bytes.len(),
+            },
+            label,
+        })
+    }
+
+    // The bound that a line of the bounds section says.
+    pub(crate) fn bound(&self, line: Piece) -> Result<Bound, Fault>
+        ensures { MatchResult result
+            (BoundSaid (knows self.now) line.entry.line line.entry.byte (cut 32 line.entry.bytes.now))
+            (λ e. bound_line (knows self.now) line.entry.line line.entry.byte (cut 32 line.entry.bytes.now) ≡ Err e) }
+    {
+        let mut words = line.words();
+        let (Some(key), Some(first), Some(second), Some(number), None) = (
+            words.next(),
+            words.next(),
+            words.next(),
+            words.next(),
+            words.next(),
+        ) else {
+            return Err(line.fault(FileFault::WrongLine));
+        };
+        let kind = kind_of(key.bytes).ok_or(line.fault(FileFault::WrongLine))?;
+        let first = self.job_named(first)?;
+        let second = self.job_named(second)?;
+        let minutes = minutes(number.bytes).ok_or(number.fault(FileFault::NotANumber))?;
+        Ok(Bound {
+            kind,
+            first,
+            second,
+            minutes,
+        })
+    }
 }

@@ -1,27 +1,23 @@
 // Names, compared with a text by place and length.
-ghost use Rattle.std.specs.Prelude.{◌≡◌, ◌+◌, ◌≤◌, length};
+ghost use Rattle.std.specs.Prelude.{◌≡◌, ◌+◌, ◌≤◌, codes, length};
 ghost use Rattle.format.specs.Format.{same, reserved_words};
 ghost use Rattle.format.specs.Faults.{among};
 ghost use Rattle.reader.specs.Names.{slice, Placed, number_among};
 
 use format::parts::NamePlace;
 
-// Whether two words are the same.
-pub(crate) fn alike(a: &[u8], b: &[u8]) -> bool
-    ensures { result ≡ same a.now b.now }
-{
-    a == b
-}
-
 // Whether a word may not name a job.
 pub(crate) fn reserved(word: &[u8]) -> bool
     ensures { result ≡ among word.now reserved_words }
 {
-    alike(b"start", word)
-        || alike(b"case", word)
-        || alike(b"cases", word)
-        || alike(b"table", word)
-        || alike(b"loop", word)
+    matches!(word, b"start" | b"case" | b"cases" | b"table" | b"loop")
+}
+
+// Whether a word is the name of the job that each book has.
+fn is_start(word: &[u8]) -> bool
+    ensures { result ≡ same (codes "start") word.now }
+{
+    matches!(word, b"start")
 }
 
 // Whether a word stands at a place.
@@ -29,9 +25,7 @@ pub(crate) fn stands_at(text: &[u8], place: NamePlace, word: &[u8]) -> bool
     requires within { place.byte + place.length ≤ length text.now }
     ensures { result ≡ same (slice text.now place) word.now }
 {
-    let start = place.byte;
-    let end = place.byte + place.length;
-    alike(&text[start..end], word)
+    &text[place.byte..place.byte + place.length] == word
 }
 
 // The number of the job that has this name.
@@ -39,7 +33,7 @@ pub(crate) fn job_number(text: &[u8], names: &[NamePlace], word: &[u8]) -> Optio
     requires placed { Placed text.now names.now }
     ensures { result ≡ number_among text.now names.now word.now }
 {
-    if alike(b"start", word) {
+    if is_start(word) {
         return Some(0);
     }
     for (i, place) in names.iter().enumerate() {

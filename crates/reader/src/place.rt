@@ -29,14 +29,6 @@ impl From<AllocError> for Unread {
     }
 }
 
-// A line of a text: its bytes, its number, and the place of its first byte.
-#[derive(Clone, Copy)]
-pub struct Line<'a> {
-    pub(crate) bytes: &'a [u8],
-    pub(crate) number: usize,
-    pub(crate) byte: usize,
-}
-
 // A fault of the file on a line at a byte.
 pub(crate) fn fault(what: FileFault, line: usize, byte: usize) -> Fault
     ensures { result ≡ fault_at what line byte }

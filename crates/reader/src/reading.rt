@@ -1,122 +1,130 @@
 // Reads a text line by line.
 ghost use Rattle.std.specs.Prelude.{◌≡◌, false, length, MatchResult, OnErr};
 ghost use Rattle.book.specs.Held.{held};
-ghost use Rattle.book.specs.Plain.{new_book};
+ghost use Rattle.format.specs.Entered.{add};
+ghost use Rattle.format.specs.Faults.{cut, fault_at};
 ghost use Rattle.reader.specs.Names.{Stands};
-ghost use Rattle.format.specs.Faults.{cut};
-ghost use Rattle.reader.specs.Entering.{Lies};
-ghost use Rattle.reader.specs.Words.{step_of, moved};
-ghost use Rattle.reader.specs.Going.{Due, Taken, Faulty, LineThere, NoLine, finished};
+ghost use Rattle.reader.specs.Going.{Begun, Due, Taken, Faulty, LineThere, NoLine, finished};
+ghost use Rattle.reader.specs.Pieces.{Lies};
+ghost use Rattle.format.specs.declared.parts.FileFault.TheVariants.{TooLong};
 
-use crate::entries::{bound, job};
 use crate::lines::count;
-use crate::place::{Line, Unread, fault};
-use crate::scan::piece_end;
-use crate::section::{Section, Step, Word, key};
-use crate::state::Reader;
+use crate::piece::Piece;
+use crate::place::{Unread, fault};
+use crate::register::{Entry, Register};
+use crate::state::{Reader, Section};
 use book::keeping::Book;
-use book::parts::Kind;
+use book::parts::Refusal;
 use format::parts::{Fault, FileFault, NamePlace, Work};
 use std::alloc::Global;
 
+// Enters a job or a check in the book.
+fn enter(book: &mut Book, entry: Entry) -> Result<usize, Refusal>
+    ensures answer { result ≡ (add entry.work (held book.old) entry.label).answer }
+    ensures after { held book.new ≡ (add entry.work (held book.old) entry.label).after }
+{
+    match entry.work {
+        Work::Job => book.add_job(entry.label),
+        Work::Check => book.add_check(entry.label),
+    }
+}
+
 impl<'a> Reader<'a> {
-    // The next line, which must have its line feed; the reader moves past it.
-    fn line(&mut self) -> Result<Line<'a>, Fault>
-        ensures cases { MatchResult result
-            (λ x. LineThere self.old self.new x.bytes.now x.number x.byte)
-            (λ e. NoLine self.old e) }
-        ensures text { self.new.text ≡ self.old.text }
-        ensures section { self.new.section ≡ self.old.section }
+    // A reader at the front of a text.
+    fn new(text: &'a [u8]) -> Result<Reader<'a>, Fault>
+        ensures { MatchResult result (Begun text.now) (λ e. e ≡ fault_at TooLong 0 0) }
     {
-        let text = self.text;
-        let start = self.at;
-        let number = self.line;
-        let end = piece_end(text, start, b'\n');
-        if end == text.len() {
-            return Err(fault(FileFault::Unfinished, number, end));
+        if text.len() > 8192 {
+            return Err(fault(FileFault::TooLong, 0, 0));
         }
-        self.at = end + 1;
-        self.line = number + 1;
-        Ok(Line {
-            bytes: &text[start..end],
-            number,
-            byte: start,
+        let rest = Piece {
+            bytes: text,
+            line: 1,
+            byte: 0,
+        };
+        Ok(Reader {
+            text,
+            rest,
+            section: Section::Top,
         })
     }
 
-    // What a line does, by the section reached and the line's first word; the section moves on past a line that it counts.
-    fn step(&mut self, word: Word) -> Step
-        ensures step { result ≡ step_of self.old.section word }
-        ensures moved { self.new.section ≡ moved self.old.section result }
+    // The next line, which must have its line feed; the reader moves past it.
+    fn line(&mut self) -> Result<Piece<'a>, Fault>
+        ensures cases { MatchResult result (LineThere self.old self.new) (NoLine self.old) }
         ensures text { self.new.text ≡ self.old.text }
-        ensures at { self.new.at ≡ self.old.at }
-        ensures line { self.new.line ≡ self.old.line }
+        ensures section { self.new.section ≡ self.old.section }
     {
-        match (self.section, word) {
-            (Section::Top, Word::Jobs) => Step::CountJobs,
-            (Section::Jobs(k), Word::Entry(work)) if k > 0 => {
-                self.section = Section::Jobs(k - 1);
-                Step::Enter(work)
-            }
-            (Section::Jobs(k), Word::Bounds) if k == 0 => Step::CountBounds,
-            (Section::Bounds(k), Word::Bound(kind)) if k > 0 => {
-                self.section = Section::Bounds(k - 1);
-                Step::Tie(kind)
-            }
-            _ => Step::Wrong,
-        }
+        let (line, rest) = self.rest.part(b'\n');
+        let Some(rest) = rest else {
+            let end = line.byte + line.bytes.len();
+            return Err(fault(FileFault::Unfinished, line.line, end));
+        };
+        self.rest = Piece {
+            bytes: rest.bytes,
+            line: rest.line + 1,
+            byte: rest.byte,
+        };
+        Ok(line)
     }
 
-    // Enters what a line says, or alters nothing but the section reached.
+    // Enters what a line says, or alters nothing.
     fn take(
         &mut self,
-        line: Line<'a>,
+        line: Piece<'a>,
         book: &mut Book,
         names: &mut [NamePlace],
     ) -> Result<(), Fault>
-        requires lies { Lies self.old.text.now line.bytes.now line.byte }
+        requires lies { Lies self.old.text.now line }
         requires stands { Stands self.old.text.now names.old (held book.old) }
         requires due { Due (length names.old) self.old.section (length (held book.old).jobs) }
         requires open { finished self.old.section ≡ false }
         ensures cases { MatchResult result
-            (λ _. Taken self.old.text.now line.entry.number line.entry.byte (cut 32 line.entry.bytes.now) self.old.section
+            (λ _. Taken self.old.text.now line.entry.line line.entry.byte (cut 32 line.entry.bytes.now) self.old.section
             names.old (held book.old) self.new.section names.new (held book.new))
-            (λ e. Faulty self.old.text.now line.entry.number line.entry.byte (cut 32 line.entry.bytes.now) self.old.section
+            (λ e. Faulty self.old.text.now line.entry.line line.entry.byte (cut 32 line.entry.bytes.now) self.old.section
             names.old (held book.old) e names.new (held book.new)) }
         ensures text { self.new.text ≡ self.old.text }
-        ensures at { self.new.at ≡ self.old.at }
-        ensures line { self.new.line ≡ self.old.line }
+        ensures rest { self.new.rest ≡ self.old.rest }
     {
-        let text = self.text;
-        let first = piece_end(line.bytes, 0, b' ');
-        match self.step(key(&line.bytes[0..first])) {
-            Step::CountJobs => {
-                let n = count(line, first)?;
-                if n > names.len() {
-                    return Err(fault(FileFault::NamesShort, line.number, line.byte));
+        let register = Register {
+            text: self.text,
+            names: &*names,
+            book: &*book,
+        };
+        match self.section {
+            Section::Top => {
+                let jobs = count(line, b"jobs")?;
+                if jobs > names.len() {
+                    return Err(line.fault(FileFault::NamesShort));
                 }
-                self.section = Section::Jobs(n);
-                Ok(())
+                self.section = Section::Jobs(jobs);
             }
-            Step::Enter(work) => job(text, line, first, work, book, names),
-            Step::CountBounds => {
-                let n = count(line, first)?;
-                self.section = Section::Bounds(n);
-                Ok(())
+            Section::Jobs(0) => {
+                let bounds = count(line, b"bounds")?;
+                self.section = Section::Bounds(bounds);
             }
-            Step::Tie(kind) => bound(text, line, first, kind, book, names),
-            Step::Wrong => Err(fault(FileFault::WrongLine, line.number, line.byte)),
+            Section::Jobs(due) => {
+                let entry = register.entry(line)?;
+                let place = book.jobs().len() - 1;
+                line.booked(enter(book, entry))?;
+                names[place] = entry.name;
+                self.section = Section::Jobs(due - 1);
+            }
+            Section::Bounds(due) => {
+                let bound = register.bound(line)?;
+                line.booked(book.add_bound(bound))?;
+                self.section = Section::Bounds(due - 1);
+            }
         }
+        Ok(())
     }
 
     // Whether the last line due has been read.
     fn done(&self) -> bool
         ensures { result ≡ finished self.now.section }
     {
-        match self.section {
-            Section::Bounds(k) => k == 0,
-            _ => false,
-        }
+        matches!(self.section, Section::Bounds(0))
     }
 
     // Reads on to the end of the text.
@@ -128,27 +136,11 @@ impl<'a> Reader<'a> {
             let line = self.line()?;
             self.take(line, book, names)?;
         }
-        if self.at < self.text.len() {
-            return Err(fault(FileFault::Trailing, self.line, self.at));
+        if !self.rest.bytes.is_empty() {
+            return Err(self.rest.fault(FileFault::Trailing));
         }
         Ok(())
     }
-}
-
-// Reads a text into a new book.
-fn read_new(text: &[u8], book: &mut Book, names: &mut [NamePlace]) -> Result<(), Fault>
-    requires fresh { held book.old ≡ new_book }
-{
-    if text.len() > 8192 {
-        return Err(fault(FileFault::TooLong, 0, 0));
-    }
-    let mut reader = Reader {
-        text,
-        at: 0,
-        line: 1,
-        section: Section::Top,
-    };
-    reader.run(book, names)
 }
 
 // Reads a text into a book and a list of names: the book holds what the text sets down, the list where each job's name stands.
@@ -162,7 +154,7 @@ pub fn read(
     ensures kept { OnErr result (held book.new ≡ held book.old) }
 {
     let mut fresh = Book::new(heap)?;
-    read_new(text, &mut fresh, names)?;
+    Reader::new(text)?.run(&mut fresh, names)?;
     book.copy_from(&fresh);
     Ok(())
 }

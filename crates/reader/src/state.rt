@@ -1,16 +1,21 @@
 // Where a reader stands.
-ghost use Rattle.std.specs.Prelude.{◌+◌, ◌≤◌, length};
+ghost use Rattle.reader.specs.Pieces.{Lies};
 
-use crate::section::Section;
+use crate::piece::Piece;
 
-// The next line's first byte and number, and the section reached.
+// The section reached, and how many of its lines are still due.
+#[derive(Clone, Copy)]
+pub(crate) enum Section {
+    Top,
+    Jobs(usize),
+    Bounds(usize),
+}
+
+// What is left of a text, and the section reached.
 #[derive(Drop)]
-pub struct Reader<'a> {
+pub(crate) struct Reader<'a> {
     pub(crate) text: &'a [u8],
-    pub(crate) at: usize,
-    pub(crate) line: usize,
+    pub(crate) rest: Piece<'a>,
     pub(crate) section: Section,
-    ghost short: { length text.now ≤ 8192 },
-    ghost within: { at ≤ length text.now },
-    ghost counted: { line ≤ at + 1 },
+    ghost lies: { Lies text.now rest },
 }

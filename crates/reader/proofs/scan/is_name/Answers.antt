@@ -1,21 +1,25 @@
-use Rattle.std.proofs.Common.{◌<◌, ◌⊎◌, get_or, sym, ◌∙◌, inl, inr, arith}
-use Rattle.format.specs.Faults.{letters}
-use Rattle.std.proofs.lemmas.List.{at_drop_all}
-use Rattle.reader.proofs.Pieces.{letter_more, letter_stop, name_is}
+use Rattle.std.proofs.Common.{◌≡◌, ℕ, ◌≤◌, Bool, leb, ◌&&◌, List, [], ◌∷◌, length, refl, ap, ◌∙◌, rules, tests, arith}
+use Rattle.std.specs.Char.{is_ascii_lowercase}
+use Rattle.std.specs.List.{list_all}
+use Rattle.std.specs.Range.{range_inclusive_start, range_inclusive_end}
+use Rattle.std.proofs.lemmas.Map.Keys.{le_from_is_le}
+use Rattle.std.proofs.lemmas.Bool.Decides.{nat_tests}
+use Rattle.std.proofs.lemmas.Iterator.{YieldsList-from_slice}
+use Rattle.std.proofs.lemmas.Iterator.Search.{all_from_yields_List}
+use Rattle.format.specs.Faults.{letters, name_form}
 use Rattle.reader.proofs.scan.is_name.Goals as goal
-use Rattle.reader.proofs.scan.is_name.Goals.{then-c-lt97-via-then-c-lt97, then-c-lt97-via-else-c-lt97+then-c-gt122}
 
-pub returns-then-c-lt97 : goal.returns-then-c-lt97
-returns-then-c-lt97 c =
+all_letters : (w : List ℕ) → list_all is_ascii_lowercase w ≡ letters w
+all_letters [] = refl
+all_letters (c ∷ cs) = ap (λ t. (leb 97 c && leb c 122) && t) (all_letters cs)
+
+name_is : (w : List ℕ) (r : Bool) → 1 ≤ length w → length w ≤ 8 → r ≡ letters w → r ≡ name_form w
+name_is w r lo hi e = grind (arith, nat_tests)
+
+pub returns-then-contains : goal.returns-then-contains
+returns-then-contains c =
     let w = c.args.word.now in
-    let i = c.loop-c.c-index in
-    let out : (get_or w i 0 < 97) ⊎ (122 < get_or w i 0) = elim c.then-c-lt97.branch
-    [ then-c-lt97-via-then-c-lt97 v ↦ inl v.if-c-lt97.true | then-c-lt97-via-else-c-lt97+then-c-gt122 v ↦ inr v.if-c-gt122.true ] in
-    name_is w _ (omega arith) (omega arith) (sym c.loop-c.invariant ∙ letter_stop w i c.loop-c-test.true out)
-
-pub loop-c-preserved : goal.loop-c-preserved
-loop-c-preserved c = sym (letter_more c.args.word.now c.loop-c.c-index c.loop-c-test.true (omega arith) (omega arith)) ∙ c.loop-c.invariant
-
-pub returns : goal.returns
-returns c = name_is c.args.word.now _ (omega arith) (omega arith)
-    (sym c.loop-c.invariant ∙ at_drop_all letters c.args.word.now c.loop-c.c-index c.loop-c-test.false)
+    let all = all_from_yields_List is_ascii_lowercase _ _ c.all.result c.all.ensures.ran (YieldsList-from_slice w cc) (λ x b q k. search (rules, tests)) in
+    let some : 1 ≤ length w = omega (arith, le_from_is_le (range_inclusive_start c.new.result) (length w) c.if-contains.ensures.cases.0) in
+    let few : length w ≤ 8 = omega (arith, le_from_is_le (length w) (range_inclusive_end c.new.result) c.if-contains.ensures.cases.1) in
+    name_is w c.all.result some few (all ∙ all_letters w)

@@ -1,22 +1,24 @@
-use Rattle.std.proofs.Common.{◌≡◌, ◌+◌, ◌-◌, length, take, drop, Err, sym, refl, ap, ◌∙◌, arith}
-use Rattle.std.proofs.lemmas.List.{length-take-le, length-drop}
-use Rattle.format.specs.declared.parts.FileFault.TheVariants.{Unfinished}
-use Rattle.format.specs.Faults.{fault, line_in}
-use Rattle.reader.proofs.Pieces.{last_piece}
+use Rattle.std.proofs.Common.{◌+◌, ap, Some}
+use Rattle.reader.specs.Pieces.{Parted}
+use Rattle.reader.proofs.Pieces.{lies_front, lies_rest}
 use Rattle.reader.proofs.state.Reader.line.Goals as goal
 
-pub returns-then-end-text : goal.returns-then-end-text
-returns-then-end-text c =
-    let text = c.args.self.now.text.now in
-    let at = c.args.self.now.at in
-    let l = c.args.self.now.line in
-    let end = c.piece_end-end.result in
-    let p = c.piece_end-end.ensures in
-    let last = last_piece 10 text at end p (omega (arith, c.if-end-text.true)) in
-    let long : at + length (take (end - at) (drop at text)) ≡ end = omega
-    (arith, p.from, p.within, length-take-le (end - at) (drop at text) (omega (arith, length-drop at text, p.within, p.from))) in
+pub invariant_of-self-2 : goal.invariant_of-self-2
+invariant_of-self-2 c =
+    let r = c.args.self.now in
+    let p : Parted 10 r.rest c.part.result.0 (Some c.in-Some.rest) = rw c.in-Some.is at c.part.ensures in
+    let l = lies_rest 10 r.text.now r.rest c.part.result.0 c.in-Some.rest r.lies p in
+    record { lies = record { short = r.lies.short; within = l.0; there = l.1 } }
+
+pub returns-clause-cases : goal.returns-clause-cases
+returns-clause-cases c =
+    let r = c.args.self.now in
+    let p : Parted 10 r.rest c.part.result.0 (Some c.in-Some.rest) = rw c.in-Some.is at c.part.ensures in
     record {
-      cases = record { says = ap (line_in l at) last ∙ (ap (λ n. fault Unfinished l n) long ∙ ap Err (sym c.fault.ensures)) };
-      text = refl;
-      section = refl;
+      numbered = p.line;
+      begun = p.byte;
+      lies = lies_front 10 r.text.now r.rest c.part.result.0 (Some c.in-Some.rest) r.lies p;
+      left = p.is;
+      onward = p.after.byte;
+      counted = ap (λ n. n + 1) p.after.line;
     }

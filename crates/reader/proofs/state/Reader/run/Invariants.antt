@@ -9,4 +9,4 @@ invariant-loop-self l =
     Stands l.self.text.now l.names (held l.book) × Due (length l.names) l.self.section (length (held l.book).jobs)
 
 abbrev pub decreases-loop-self : goal.decreases-loop-self
-decreases-loop-self l = length l.self.text.now - l.self.at
+decreases-loop-self l = length l.self.text.now - l.self.rest.byte

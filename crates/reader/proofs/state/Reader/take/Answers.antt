@@ -1,113 +1,70 @@
-use Rattle.std.proofs.Common.{◌≡◌, ℕ, ◌-◌, List, length, take, sym, refl, ap, ◌∙◌, subst, arith}
-use Rattle.std.proofs.lemmas.Result.{MatchResult-weaker, err_from_is_err_and}
+use Rattle.std.proofs.Common.{◌≡◌, false, ◌-◌, length, set, sym, ap, ◌∙◌, arith}
+use Rattle.std.proofs.lemmas.Result.{err_from_is_err_and}
 use Rattle.book.specs.Held.{held, held_sound}
-use Rattle.reader.specs.declared.section.Section.{Section}
-use Rattle.reader.specs.declared.section.Step.TheVariants.{CountJobs, Enter, CountBounds, Tie, Wrong}
-use Rattle.reader.specs.Words.{word_of}
-use Rattle.reader.proofs.Pieces.{first_piece}
-use Rattle.reader.proofs.Spelling.{fits}
-use Rattle.reader.proofs.Taken.{wrong_line, jobs_counted, jobs_short, jobs_miscounted, bounds_counted, bounds_miscounted, job_taken, job_faulty, bound_taken, bound_faulty}
+use Rattle.reader.specs.Going.{Due, finished}
+use Rattle.reader.specs.declared.state.Section.TheVariants.{Jobs, Bounds}
+use Rattle.reader.proofs.Taken.{answered, jobs_counted, bounds_counted, job_taken, job_faulty, some_due, bound_taken, bound_faulty}
 use Rattle.reader.proofs.state.Reader.take.Goals as goal
 
-whole_front : (bytes : List ℕ) (first : ℕ) → word_of (take (first - 0) bytes) ≡ word_of (take first bytes)
-whole_front bytes first = ap (λ k. word_of (take k bytes)) (omega arith)
+pub returns-in_err-booked-in-Jobs-clause-cases : goal.returns-in_err-booked-in-Jobs-clause-cases
+returns-in_err-booked-in-Jobs-clause-cases c =
+    let some : (Unit {0}) × (c.in-Jobs.due ≡ 0 → ⊥) = rw c.in-Jobs.is at c.in-Jobs.due-test in
+    let answer = ap (answered c.args.line.line c.args.line.byte) (sym c.enter.ensures.answer) ∙ sym c.in_err-booked-in-Jobs.ensures in
+    let p = err_from_is_err_and c.from_residual-in_err-booked-in-Jobs.result c.from_residual-in_err-booked-in-Jobs.ensures.1 in
+    rw (p.1, p.2, c.in-Jobs.is)
+    (job_faulty c.args.self.now.text.now c.args.line c.args.names.now (held c.args.book.now) c.in_ok-entry-in-Jobs.entry c.in_ok-entry-in-Jobs.ensures
+    c.in-Jobs.due c.in_err-booked-in-Jobs.field-0.0 (held c.enter.new.book) (omega arith) answer c.enter.ensures.after)
 
-pub returns-in_err-n-in-CountJobs : goal.returns-in_err-n-in-CountJobs
-returns-in_err-n-in-CountJobs c =
-    let bytes = c.args.line.bytes.now in
-    let first = c.piece_end-first.result in
-    let w : List ℕ = take first bytes in
-    let split = first_piece 32 bytes first c.piece_end-first.ensures in
-    let f = fits CountJobs c.args.self.now.section c.key.result w c.in-CountJobs.ensures.step (c.key.ensures ∙ whole_front bytes first) in
-    let p = err_from_is_err_and c.from_residual.result c.from_residual.ensures.1 in
-    rw (p.1, p.2)
-    (record {
-      cases = jobs_miscounted _ c.args.line.number c.args.line.byte _ w _ split c.args.names.now (held c.args.book.now) _ f _
-          c.in_err-n-in-CountJobs.ensures;
-      text = c.in-CountJobs.ensures.text;
-      at = c.in-CountJobs.ensures.at;
-      line = c.in-CountJobs.ensures.line;
-    })
+pub bounds-names-place : goal.bounds-names-place
+bounds-names-place c =
+    let some : (Unit {0}) × (c.in-Jobs.due ≡ 0 → ⊥) = rw c.in-Jobs.is at c.in-Jobs.due-test in
+    let first = (held_sound c.args.book.now).some in
+    let due : Due (length c.args.names.now) (Jobs c.in-Jobs.due) (length (held c.args.book.now).jobs) = rw c.in-Jobs.is at c.requires.due in
+    omega (arith, ap length c.jobs.ensures)
 
-pub returns-in_err-n-in-CountBounds : goal.returns-in_err-n-in-CountBounds
-returns-in_err-n-in-CountBounds c =
-    let bytes = c.args.line.bytes.now in
-    let first = c.piece_end-first.result in
-    let w : List ℕ = take first bytes in
-    let split = first_piece 32 bytes first c.piece_end-first.ensures in
-    let f = fits CountBounds c.args.self.now.section c.key.result w c.in-CountBounds.ensures.step (c.key.ensures ∙ whole_front bytes first) in
-    let p = err_from_is_err_and c.from_residual-in_err-n-in-CountBounds.result c.from_residual-in_err-n-in-CountBounds.ensures.1 in
-    rw (p.1, p.2)
-    (record {
-      cases = bounds_miscounted _ c.args.line.number c.args.line.byte _ w _ split c.args.names.now (held c.args.book.now) _ f _
-          c.in_err-n-in-CountBounds.ensures;
-      text = c.in-CountBounds.ensures.text;
-      at = c.in-CountBounds.ensures.at;
-      line = c.in-CountBounds.ensures.line;
-    })
+pub returns-in_err-booked-in-Bounds-clause-cases : goal.returns-in_err-booked-in-Bounds-clause-cases
+returns-in_err-booked-in-Bounds-clause-cases c =
+    let unread : finished (Bounds c.in-Bounds.due) ≡ false = rw c.in-Bounds.is at c.requires.open in
+    let answer = ap (answered c.args.line.line c.args.line.byte) (sym c.add_bound.ensures.answer) ∙ sym c.in_err-booked-in-Bounds.ensures in
+    let p = err_from_is_err_and c.from_residual-in_err-booked-in-Bounds.result c.from_residual-in_err-booked-in-Bounds.ensures.1 in
+    rw (p.1, p.2, c.in-Bounds.is)
+    (bound_faulty c.args.self.now.text.now c.args.line.line c.args.line.byte _ c.args.names.now (held c.args.book.now) c.in_ok-bound-in-Bounds.bound
+    c.in_ok-bound-in-Bounds.ensures c.in-Bounds.due c.in_err-booked-in-Bounds.field-0.0 (held c.add_bound.new.self) (some_due c.in-Bounds.due unread)
+    answer c.add_bound.ensures.after)
 
-pub returns-else-n-names : goal.returns-else-n-names
-returns-else-n-names c =
-    let bytes = c.args.line.bytes.now in
-    let first = c.piece_end-first.result in
-    let w : List ℕ = take first bytes in
-    let split = first_piece 32 bytes first c.piece_end-first.ensures in
-    let f = fits CountJobs c.args.self.now.section c.key.result w c.in-CountJobs.ensures.step (c.key.ensures ∙ whole_front bytes first) in
-    record {
-      cases = jobs_counted _ c.args.line.number c.args.line.byte _ w _ split c.args.names.now (held c.args.book.now) _ f _
-          c.in_ok-n-in-CountJobs.n c.requires.stands c.requires.due c.in_ok-n-in-CountJobs.ensures c.if-n-names.false refl;
-      text = c.in-CountJobs.ensures.text;
-      at = c.in-CountJobs.ensures.at;
-      line = c.in-CountJobs.ensures.line;
-    }
+pub overflow_sub-self-in-Bounds : goal.overflow_sub-self-in-Bounds
+overflow_sub-self-in-Bounds c =
+    let unread : finished (Bounds c.in-Bounds.due) ≡ false = rw c.in-Bounds.is at c.requires.open in
+    some_due c.in-Bounds.due unread
 
-pub returns-in-Enter : goal.returns-in-Enter
-returns-in-Enter c =
-    let bytes = c.args.line.bytes.now in
-    let first = c.piece_end-first.result in
-    let w : List ℕ = take first bytes in
-    let k = c.in-Enter.work in
-    let f = fits (Enter k) c.args.self.now.section c.key.result w c.in-Enter.ensures.step (c.key.ensures ∙ whole_front bytes first) in
-    record {
-      cases = MatchResult-weaker c.job.result c.job.ensures.cases
-          (λ _ j. job_taken _ c.args.line.number c.args.line.byte bytes w c.args.names.now (held c.args.book.now) _ _ k _ f _
-          c.in-Enter.ensures.moved (held_sound c.args.book.now) c.requires.stands c.requires.due j)
-          (λ e j. job_faulty _ c.args.line.number c.args.line.byte bytes w c.args.names.now (held c.args.book.now) _ _ k _ f e j);
-      text = c.in-Enter.ensures.text;
-      at = c.in-Enter.ensures.at;
-      line = c.in-Enter.ensures.line;
-    }
+pub returns-else-jobs-names-clause-cases : goal.returns-else-jobs-names-clause-cases
+returns-else-jobs-names-clause-cases c =
+    rw c.in-Top.is
+    (jobs_counted c.args.self.now.text.now c.args.line.line c.args.line.byte _ c.args.names.now (held c.args.book.now) c.in_ok-jobs-in-Top.jobs
+    c.requires.stands (rw c.in-Top.is at c.requires.due) c.in_ok-jobs-in-Top.ensures c.if-jobs-names.false)
 
-pub returns-in-Tie : goal.returns-in-Tie
-returns-in-Tie c =
-    let bytes = c.args.line.bytes.now in
-    let first = c.piece_end-first.result in
-    let w : List ℕ = take first bytes in
-    let split = first_piece 32 bytes first c.piece_end-first.ensures in
-    let k = c.in-Tie.kind in
-    let f = fits (Tie k) c.args.self.now.section c.key.result w c.in-Tie.ensures.step (c.key.ensures ∙ whole_front bytes first) in
-    record {
-      cases = MatchResult-weaker c.bound.result c.bound.ensures.cases
-          (λ _ j. bound_taken _ c.args.line.number c.args.line.byte bytes w c.args.names.now (held c.args.book.now) c.args.names.now _
-          k _ f _ _ c.in-Tie.ensures.moved split c.requires.stands j)
-          (λ e j. bound_faulty _ c.args.line.number c.args.line.byte bytes w c.args.names.now (held c.args.book.now) c.args.names.now _
-          k _ f e j);
-      text = c.in-Tie.ensures.text;
-      at = c.in-Tie.ensures.at;
-      line = c.in-Tie.ensures.line;
-    }
+pub returns-in_ok-bounds-in-Jobs-eq0-clause-cases : goal.returns-in_ok-bounds-in-Jobs-eq0-clause-cases
+returns-in_ok-bounds-in-Jobs-eq0-clause-cases c =
+    rw (c.in-Jobs-eq0.is, sym c.in-Jobs-eq0.field-0-is ∙ c.in-Jobs-eq0.field-0-test)
+    (bounds_counted c.args.self.now.text.now c.args.line.line c.args.line.byte _ c.args.names.now (held c.args.book.now) c.in_ok-bounds-in-Jobs-eq0.bounds
+    c.requires.stands c.in_ok-bounds-in-Jobs-eq0.ensures)
 
-pub returns-in-Wrong : goal.returns-in-Wrong
-returns-in-Wrong c =
-    let bytes = c.args.line.bytes.now in
-    let first = c.piece_end-first.result in
-    let w : List ℕ = take first bytes in
-    let split = first_piece 32 bytes first c.piece_end-first.ensures in
-    let f = fits Wrong c.args.self.now.section c.key.result w c.in-Wrong.ensures.step (c.key.ensures ∙ whole_front bytes first) in
-    record {
-      cases = wrong_line _ c.args.line.number c.args.line.byte _ w _ split c.args.names.now (held c.args.book.now) _ _ c.requires.open f
-          c.fault-in-Wrong.ensures;
-      text = c.in-Wrong.ensures.text;
-      at = c.in-Wrong.ensures.at;
-      line = c.in-Wrong.ensures.line;
-    }
+pub returns-in_ok-booked-in-Jobs-clause-cases : goal.returns-in_ok-booked-in-Jobs-clause-cases
+returns-in_ok-booked-in-Jobs-clause-cases c =
+    let some : (Unit {0}) × (c.in-Jobs.due ≡ 0 → ⊥) = rw c.in-Jobs.is at c.in-Jobs.due-test in
+    let e = c.in_ok-entry-in-Jobs.entry in
+    let answer = ap (answered c.args.line.line c.args.line.byte) (sym c.enter.ensures.answer) ∙ sym c.in_ok-booked-in-Jobs.ensures in
+    let place = ap (λ js. set c.args.names.now (length js - 1) e.name) c.jobs.ensures in
+    rw c.in-Jobs.is
+    (job_taken c.args.self.now.text.now c.args.line c.args.names.now (held c.args.book.now) e c.in_ok-entry-in-Jobs.ensures c.in-Jobs.due
+    c.in_ok-booked-in-Jobs.field-0 _ (held c.enter.new.book) (omega arith) c.requires.lies (held_sound c.args.book.now) c.requires.stands
+    (rw c.in-Jobs.is at c.requires.due) answer c.enter.ensures.after place)
+
+pub returns-in_ok-booked-in-Bounds-clause-cases : goal.returns-in_ok-booked-in-Bounds-clause-cases
+returns-in_ok-booked-in-Bounds-clause-cases c =
+    let unread : finished (Bounds c.in-Bounds.due) ≡ false = rw c.in-Bounds.is at c.requires.open in
+    let answer = ap (answered c.args.line.line c.args.line.byte) (sym c.add_bound.ensures.answer) ∙ sym c.in_ok-booked-in-Bounds.ensures in
+    rw c.in-Bounds.is
+    (bound_taken c.args.self.now.text.now c.args.line.line c.args.line.byte _ c.args.names.now (held c.args.book.now) c.in_ok-bound-in-Bounds.bound
+    c.in_ok-bound-in-Bounds.ensures c.in-Bounds.due c.in_ok-booked-in-Bounds.field-0 (held c.add_bound.new.self) (some_due c.in-Bounds.due unread)
+    c.requires.stands answer c.add_bound.ensures.after)
