@@ -1,6 +1,6 @@
 -- Names by their places, and the jobs known by them.
 use Rattle.std.proofs.Common.{◌≡◌, ℕ, zero, suc, ◌+◌, ◌-◌, ◌<◌, ◌≤◌, Bool, true, false, cond, List, [], ◌∷◌, length, get_or, drop, Some}
-use Rattle.std.proofs.Common.{None, codes, Option, sym, refl, ap, ◌∙◌, arith}
+use Rattle.std.proofs.Common.{None, IfSome, codes, Option, sym, refl, ap, ◌∙◌, arith}
 use Rattle.std.proofs.lemmas.List.{at_drop_more, length-drop, get_or-drop, length-take-le}
 use Rattle.book.specs.declared.parts.Job.{Job}
 use Rattle.book.specs.Plain.{Plain, job, no_job}
@@ -9,7 +9,6 @@ use Rattle.format.specs.declared.parts.NamePlace.{NamePlace}
 use Rattle.format.specs.Format.{start_known, same, job_from, job_number, check_of, check_number}
 use Rattle.format.proofs.Steps.{no_value, same_some}
 use Rattle.reader.specs.Names.{slice, no_place, place_from, number_among, named, known_in, known_by, Named, known_places, Stands}
-use Rattle.reader.specs.Says.{InList}
 
 -- a name at the next place, or not
 pub place_found : (n i : ℕ) (text : List ℕ) (ns : List NamePlace) (w : List ℕ) → i < length ns → same (slice text (get_or ns i no_place)) w ≡ true
@@ -71,14 +70,14 @@ check_small b j c s h e = omega (arith, ((s.each_job j h).counted c e).0, s.few_
 pub stands_named : (text : List ℕ) (ns : List NamePlace) (b : Plain) → Sound b → Stands text ns b → Named text (known_places ns b) b
 stands_named text ns b s h = record { counted = omega (arith, length-take-le (length b.jobs - 1) ns (omega (arith, h.room)), s.some); placed = h.placed }
 
-pub in_list : (o : Option ℕ) (n : ℕ) → ((j : ℕ) → o ≡ Some j → j < n) → InList o n
+pub in_list : (o : Option ℕ) (n : ℕ) → ((j : ℕ) → o ≡ Some j → j < n) → IfSome o (λ j. j < n)
 in_list (Some j) n f = f j refl
 in_list None n f = tt
 
 -- the job found at one of the places known
 pub record Found (text : List ℕ) (ns : List NamePlace) (b : Plain) (w : List ℕ) (r : Option ℕ) : Type 0 where
   pub value : r ≡ job_number (known_by text ns b) w
-  pub within : InList r (length b.jobs)
+  pub within : IfSome r (λ j. j < length b.jobs)
 
 pub found_job : (text : List ℕ) (ns : List NamePlace) (b : Plain) (w : List ℕ) (r : Option ℕ) → Sound b → Stands text ns b
     → r ≡ number_among text (known_places ns b) w → Found text ns b w r
@@ -92,7 +91,7 @@ found_job text ns b w r s h e =
 -- and the check found there
 pub record FoundCheck (text : List ℕ) (ns : List NamePlace) (b : Plain) (w : List ℕ) (r : Option ℕ) : Type 0 where
   pub value : r ≡ check_number (known_by text ns b) w
-  pub few : InList r 8
+  pub few : IfSome r (λ c. c < 8)
 
 pub found_check : (text : List ℕ) (ns : List NamePlace) (b : Plain) (w : List ℕ) (j : ℕ) (js : List Job) → Sound b → Stands text ns b
     → Some j ≡ job_number (known_by text ns b) w → j < length b.jobs → js ≡ b.jobs → FoundCheck text ns b w (get_or js j no_job).check

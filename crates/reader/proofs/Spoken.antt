@@ -106,20 +106,20 @@ module _ (ks : List Known) (line : Piece) (s t u : Words) (w v : Piece) (start :
 
   pub job_said : (k : Work) (label : Label) → Some k ≡ work_of w.bytes.now → new_name ks v.line v.byte v.bytes.now ≡ Ok v.bytes.now
       → Ok label ≡ labelled empty_label ks u.rest
-      → JobSaid ks line.line line.byte (cut 32 line.bytes.now) (record { work = k; name = record { byte = v.byte; length = length v.bytes.now }; label = label })
+      → JobSaid ks line (record { work = k; name = record { byte = v.byte; length = length v.bytes.now }; label = label })
   job_said k label e n q =
       let d : line.byte + length w.bytes.now + 1 + length v.bytes.now + 1 ≡ line.byte + length w.bytes.now + length v.bytes.now + 2 = omega arith in
       let says : saying empty_label ks line.line (line.byte + length w.bytes.now + length v.bytes.now + 2) (parts 32 u.rest) ≡ Ok label =
       ap (λ m. saying empty_label ks line.line m (parts 32 u.rest)) (sym d) ∙ (sym (said_at empty_label ks line.line _ u.rest name_taken.left) ∙ sym q) in
       let (xs, x, y) = then_ok (wants_of ks line.line (line.byte + length w.bytes.now + length v.bytes.now + 2) (parts 32 u.rest)) _ label says in
       let name : new_name ks line.line (line.byte + length w.bytes.now + 1) v.bytes.now ≡ Ok v.bytes.now = rw (← name_taken.line, ← name_taken.byte) n in
-      rw two_words (record {
+      record {
         line = record { work = k; name = v.bytes.now; wants = xs };
-        says = rw (← e) (then_is _ _ v.bytes.now name ∙ then_is _ _ xs x);
+        says = rw (two_words, ← e) (then_is _ _ v.bytes.now name ∙ then_is _ _ xs x);
         work = refl;
         label = same_ok (label_from empty_label ks xs) label y;
-        name = rw (← e, name_taken.byte) refl;
-      })
+        name = rw (two_words, ← e, name_taken.byte) refl;
+      }
 
 -- a line of the bounds section
 module _ (ks : List Known) (line : Piece) (s0 s1 s2 s3 s4 : Words) (w v u t : Piece) (start : s0.rest ≡ Some line) (first : WordFirst s0 w s1)
@@ -166,7 +166,7 @@ module _ (ks : List Known) (line : Piece) (s0 s1 s2 s3 s4 : Words) (w v u t : Pi
       minutes_stop q = says ∙ (then_is _ _ i (sym named) ∙ (then_is _ _ j (sym other) ∙ rw (← q) refl))
 
       pub bound_said : (z : ℤ) → Some z ≡ minutes_of t.bytes.now
-          → BoundSaid ks line.line line.byte (cut 32 line.bytes.now) (record { kind = k; first = i; second = j; minutes = z })
+          → BoundSaid ks line (record { kind = k; first = i; second = j; minutes = z })
       bound_said z q =
           let a = (job_named_sound ks v.line v.byte v.bytes.now i (sym named)).1 in
           let b = (job_named_sound ks u.line u.byte u.bytes.now j (sym other)).1 in

@@ -25,7 +25,7 @@ use Rattle.reader.specs.declared.state.Section.{Section}
 use Rattle.reader.specs.declared.state.Section.TheVariants.{Top, Jobs, Bounds}
 use Rattle.reader.specs.Pieces.{Lies}
 use Rattle.reader.specs.Names.{slice, known_by, Stands}
-use Rattle.reader.specs.Says.{JobSaid, BoundSaid}
+use Rattle.reader.specs.Says.{words_of, JobSaid, BoundSaid}
 use Rattle.reader.specs.Going.{Holds, Due, Taken, Faulty, finished, heard, reached}
 use Rattle.reader.proofs.Pieces.{part_of}
 use Rattle.reader.proofs.Entered.{JobEntered, BoundEntered, one_more, same_room, stands_after, jobs_stay, bound_stands}
@@ -37,9 +37,9 @@ no_work Least = refl
 no_work Most = refl
 
 -- a line that says a count
-module _ (text : List ℕ) (l b : ℕ) (ws : List (List ℕ)) (ns : List NamePlace) (o : Plain) where
-  counted : (x x' : Section) → Stands text ns o → Due (length ns) x' (length o.jobs) → line_name b ws ≡ []
-      → ((s : Reading) → heard (length ns) x s l b ws ≡ Ok (reached x' s)) → Taken text l b ws x ns o x' ns o
+module _ (text : List ℕ) (p : Piece) (ns : List NamePlace) (o : Plain) where
+  counted : (x x' : Section) → Stands text ns o → Due (length ns) x' (length o.jobs) → line_name p.byte (words_of p) ≡ []
+      → ((s : Reading) → heard (length ns) x s p.line p.byte (words_of p) ≡ Ok (reached x' s)) → Taken text p x ns o x' ns o
   counted x x' h due e says = record {
     room = refl;
     stands = h;
@@ -49,18 +49,18 @@ module _ (text : List ℕ) (l b : ℕ) (ws : List (List ℕ)) (ns : List NamePla
     says = λ s k. (s, k, says s);
   }
 
-  pub jobs_counted : (n : ℕ) → Stands text ns o → Due (length ns) Top (length o.jobs) → Ok n ≡ count_of (codes "jobs") l b ws → n ≤ length ns
-      → Taken text l b ws Top ns o (Jobs n) ns o
+  pub jobs_counted : (n : ℕ) → Stands text ns o → Due (length ns) Top (length o.jobs) → Ok n ≡ count_of (codes "jobs") p.line p.byte (words_of p) → n ≤ length ns
+      → Taken text p Top ns o (Jobs n) ns o
   jobs_counted n h due e few =
-      let counts : jobs_count (length ns) l b ws ≡ Ok n =
-      then_is (count_of (codes "jobs") l b ws) _ n (sym e) ∙ rw (le-leb n (length ns) few) refl in
-      counted Top (Jobs n) h (omega arith) (ap (line_name b) (count_sound (codes "jobs") l b ws n (sym e)).0)
-      (λ s. then_is (jobs_count (length ns) l b ws) _ n counts)
+      let counts : jobs_count (length ns) p.line p.byte (words_of p) ≡ Ok n =
+      then_is (count_of (codes "jobs") p.line p.byte (words_of p)) _ n (sym e) ∙ rw (le-leb n (length ns) few) refl in
+      counted Top (Jobs n) h (omega arith) (ap (line_name p.byte) (count_sound (codes "jobs") p.line p.byte (words_of p) n (sym e)).0)
+      (λ s. then_is (jobs_count (length ns) p.line p.byte (words_of p)) _ n counts)
 
-  pub bounds_counted : (n : ℕ) → Stands text ns o → Ok n ≡ count_of (codes "bounds") l b ws → Taken text l b ws (Jobs 0) ns o (Bounds n) ns o
+  pub bounds_counted : (n : ℕ) → Stands text ns o → Ok n ≡ count_of (codes "bounds") p.line p.byte (words_of p) → Taken text p (Jobs 0) ns o (Bounds n) ns o
   bounds_counted n h e =
-      counted (Jobs 0) (Bounds n) h tt (ap (line_name b) (count_sound (codes "bounds") l b ws n (sym e)).0)
-      (λ s. then_is (count_of (codes "bounds") l b ws) _ n (sym e))
+      counted (Jobs 0) (Bounds n) h tt (ap (line_name p.byte) (count_sound (codes "bounds") p.line p.byte (words_of p) n (sym e)).0)
+      (λ s. then_is (count_of (codes "bounds") p.line p.byte (words_of p)) _ n (sym e))
 
 -- where the name of a job line stands
 front : (v : List ℕ) (vs : List (List ℕ)) → (z : List ℕ) × (joined 32 (v ∷ vs) ≡ v ++ z)
@@ -109,7 +109,7 @@ add_refused Check o label l b e q = unaltered (check_refusal o label) _ _ o l b 
 
 -- a line of the jobs section, with n of them due
 module _ (text : List ℕ) (p : Piece) (ns : List NamePlace) (o : Plain) (e : Entry)
-    (j : JobSaid (known_by text ns o) p.line p.byte (cut 32 p.bytes.now) e) where
+    (j : JobSaid (known_by text ns o) p e) where
   call : call_job (known_by text ns o) o j.line ≡ add e.work o e.label
   call = ap (λ k. add k o (label_in (known_by text ns o) j.line.wants)) j.work ∙ ap (add e.work o) j.label
 
@@ -141,7 +141,7 @@ module _ (text : List ℕ) (p : Piece) (ns : List NamePlace) (o : Plain) (e : En
 
   pub job_taken : (n : ℕ) (u : Unit {0}) (ns' : List NamePlace) (o' : Plain) → 1 ≤ n → Lies text p → Sound o → Stands text ns o
       → Due (length ns) (Jobs n) (length o.jobs) → answered p.line p.byte (add e.work o e.label).answer ≡ Ok u → o' ≡ (add e.work o e.label).after
-      → ns' ≡ slice_set ns (length o.jobs - 1) e.name → Taken text p.line p.byte (cut 32 p.bytes.now) (Jobs n) ns o (Jobs (n - 1)) ns' o'
+      → ns' ≡ slice_set ns (length o.jobs - 1) e.name → Taken text p (Jobs n) ns o (Jobs (n - 1)) ns' o'
   unfolding entered
   job_taken zero u ns' o' some h s st due q a n = absurd (omega arith)
   job_taken (suc k) u ns' o' some h s st due q a n =
@@ -164,7 +164,7 @@ module _ (text : List ℕ) (p : Piece) (ns : List NamePlace) (o : Plain) (e : En
       })
 
   pub job_faulty : (n : ℕ) (f : Fault) (o' : Plain) → 1 ≤ n → answered p.line p.byte (add e.work o e.label).answer ≡ Err f
-      → o' ≡ (add e.work o e.label).after → Faulty text p.line p.byte (cut 32 p.bytes.now) (Jobs n) ns o f ns o'
+      → o' ≡ (add e.work o e.label).after → Faulty text p (Jobs n) ns o f ns o'
   job_faulty zero f o' some q a = absurd (omega arith)
   job_faulty (suc k) f o' some q a =
       let x = asked ∙ booked_err p.line p.byte (add e.work o e.label).answer f j.line q in
@@ -180,51 +180,51 @@ some_due zero e = cc
 some_due (suc n) e = omega arith
 
 -- a line of the bounds section, with n of them due
-module _ (text : List ℕ) (l b : ℕ) (ws : List (List ℕ)) (ns : List NamePlace) (o : Plain) (x : Bound)
-    (j : BoundSaid (known_by text ns o) l b ws x) where
-  bound_says : {r : Result BoundLine Fault} (s : Reading) → Holds text ns o s → bound_of (known_by text ns o) o l b ws ≡ r
-      → bound_of s.known s.book l b ws ≡ r
-  bound_says s h q = ap (λ k. bound_of k s.book l b ws) h.known ∙ (ap (λ k. bound_of (known_by text ns o) k l b ws) h.book ∙ q)
+module _ (text : List ℕ) (p : Piece) (ns : List NamePlace) (o : Plain) (x : Bound)
+    (j : BoundSaid (known_by text ns o) p x) where
+  bound_says : {r : Result BoundLine Fault} (s : Reading) → Holds text ns o s → bound_of (known_by text ns o) o p.line p.byte (words_of p) ≡ r
+      → bound_of s.known s.book p.line p.byte (words_of p) ≡ r
+  bound_says s h q = ap (λ k. bound_of k s.book p.line p.byte (words_of p)) h.known ∙ (ap (λ k. bound_of (known_by text ns o) k p.line p.byte (words_of p)) h.book ∙ q)
 
-  bound_asked : bound_of (known_by text ns o) o l b ws ≡ booked l b (add_bound o x).answer j.line
-  bound_asked = then_is (bound_line (known_by text ns o) l b ws) _ j.line j.says ∙ ap (λ y. booked l b (add_bound o y).answer j.line) j.bound
+  bound_asked : bound_of (known_by text ns o) o p.line p.byte (words_of p) ≡ booked p.line p.byte (add_bound o x).answer j.line
+  bound_asked = then_is (bound_line (known_by text ns o) p.line p.byte (words_of p)) _ j.line j.says ∙ ap (λ y. booked p.line p.byte (add_bound o y).answer j.line) j.bound
 
-  unnamed : line_name b ws ≡ []
+  unnamed : line_name p.byte (words_of p) ≡ []
   unnamed =
-      let w = (bound_sound (known_by text ns o) l b ws j.line j.says).0 in
-      ap (line_name b) w ∙ rw (no_work j.line.kind) refl
+      let w = (bound_sound (known_by text ns o) p.line p.byte (words_of p) j.line j.says).0 in
+      ap (line_name p.byte) w ∙ rw (no_work j.line.kind) refl
 
-  pub bound_taken : (n : ℕ) (u : Unit {0}) (o' : Plain) → 1 ≤ n → Stands text ns o → answered l b (add_bound o x).answer ≡ Ok u → o' ≡ (add_bound o x).after
-      → Taken text l b ws (Bounds n) ns o (Bounds (n - 1)) ns o'
+  pub bound_taken : (n : ℕ) (u : Unit {0}) (o' : Plain) → 1 ≤ n → Stands text ns o → answered p.line p.byte (add_bound o x).answer ≡ Ok u → o' ≡ (add_bound o x).after
+      → Taken text p (Bounds n) ns o (Bounds (n - 1)) ns o'
   bound_taken zero u o' some st q a = absurd (omega arith)
   bound_taken (suc k) u o' some st q a =
-      let y : BoundEntered text l b ws ns o o' = record {
+      let y : BoundEntered text p.line p.byte (words_of p) ns o o' = record {
         line = j.line;
-        says = bound_asked ∙ booked_ok l b (add_bound o x).answer u j.line q;
+        says = bound_asked ∙ booked_ok p.line p.byte (add_bound o x).answer u j.line q;
         book = a ∙ ap (λ z. (add_bound o z).after) (sym j.bound);
       } in
-      let same_jobs = ap length (jobs_stay text l b ws ns o ns o' y st) in
+      let same_jobs = ap length (jobs_stay text p.line p.byte (words_of p) ns o ns o' y st) in
       let fewer : suc k - 1 ≡ k = omega arith in
       rw fewer (record {
         room = refl;
-        stands = bound_stands text l b ws ns o ns o' y st;
+        stands = bound_stands text p.line p.byte (words_of p) ns o ns o' y st;
         due = tt;
         noted = rw unnamed refl;
         more = omega (arith, same_jobs, ap length unnamed);
         says = λ t h. (
           with_bound_line t y.line,
-          bound_holds text l b ws ns o ns o' y st t h,
-          then_is (bound_of t.known t.book l b ws) _ y.line (bound_says t h y.says),
+          bound_holds text p.line p.byte (words_of p) ns o ns o' y st t h,
+          then_is (bound_of t.known t.book p.line p.byte (words_of p)) _ y.line (bound_says t h y.says),
         );
       })
 
-  pub bound_faulty : (n : ℕ) (f : Fault) (o' : Plain) → 1 ≤ n → answered l b (add_bound o x).answer ≡ Err f → o' ≡ (add_bound o x).after
-      → Faulty text l b ws (Bounds n) ns o f ns o'
+  pub bound_faulty : (n : ℕ) (f : Fault) (o' : Plain) → 1 ≤ n → answered p.line p.byte (add_bound o x).answer ≡ Err f → o' ≡ (add_bound o x).after
+      → Faulty text p (Bounds n) ns o f ns o'
   bound_faulty zero f o' some q a = absurd (omega arith)
   bound_faulty (suc k) f o' some q a =
-      let y = bound_asked ∙ booked_err l b (add_bound o x).answer f j.line q in
+      let y = bound_asked ∙ booked_err p.line p.byte (add_bound o x).answer f j.line q in
       record {
-        book = a ∙ unaltered (bound_refusal o x) _ _ o l b f q;
+        book = a ∙ unaltered (bound_refusal o x) _ _ o p.line p.byte f q;
         noted = refl;
-        says = λ t h. then_no (bound_of t.known t.book l b ws) _ _ (bound_says t h y);
+        says = λ t h. then_no (bound_of t.known t.book p.line p.byte (words_of p)) _ _ (bound_says t h y);
       }

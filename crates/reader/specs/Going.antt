@@ -12,6 +12,7 @@ use Rattle.reader.specs.declared.state.Reader.{Reader}
 use Rattle.reader.specs.Names.{known_by, Stands}
 use Rattle.reader.specs.declared.piece.Piece.{Piece}
 use Rattle.reader.specs.Pieces.{Lies}
+use Rattle.reader.specs.Says.{words_of}
 
 -- a reader stands at the front of a text
 pub record Begun (whole : List ℕ) (r : Reader) : Type 0 where
@@ -59,21 +60,21 @@ abbrev pub note : List NamePlace → ℕ → List NamePlace → List NamePlace
 note ns n [] = ns
 note ns n (p ∷ ps) = slice_set ns n p
 
--- a line is taken in a section: from line l and byte b, with these words
-module _ (text : List ℕ) (l b : ℕ) (ws : List (List ℕ)) (x : Section) (ns : List NamePlace) (o : Plain) where
+-- a line p is taken in a section
+module _ (text : List ℕ) (p : Piece) (x : Section) (ns : List NamePlace) (o : Plain) where
   pub record Taken (x' : Section) (ns' : List NamePlace) (o' : Plain) : Type 0 where
     pub room : length ns' ≡ length ns
     pub stands : Stands text ns' o'
     pub due : Due (length ns) x' (length o'.jobs)
-    pub noted : ns' ≡ note ns (length o.jobs - 1) (line_name b ws)
-    pub more : length o'.jobs ≡ length o.jobs + length (line_name b ws)
-    pub says : (s : Reading) → Holds text ns o s → (s' : Reading) × Holds text ns' o' s' × (heard (length ns) x s l b ws ≡ Ok (reached x' s'))
+    pub noted : ns' ≡ note ns (length o.jobs - 1) (line_name p.byte (words_of p))
+    pub more : length o'.jobs ≡ length o.jobs + length (line_name p.byte (words_of p))
+    pub says : (s : Reading) → Holds text ns o s → (s' : Reading) × Holds text ns' o' s' × (heard (length ns) x s p.line p.byte (words_of p) ≡ Ok (reached x' s'))
 
   -- or it has a fault, and nothing is altered
   pub record Faulty (e : Fault) (ns' : List NamePlace) (o' : Plain) : Type 0 where
     pub book : o' ≡ o
     pub noted : ns' ≡ ns
-    pub says : (s : Reading) → Holds text ns o s → heard (length ns) x s l b ws ≡ Err e
+    pub says : (s : Reading) → Holds text ns o s → heard (length ns) x s p.line p.byte (words_of p) ≡ Err e
 
 -- the next line has its line feed, and the reader has moved past it
 pub record LineThere (r r' : Reader) (line : Piece) : Type 0 where

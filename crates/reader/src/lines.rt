@@ -1,11 +1,11 @@
 // What lines say, from their words.
-ghost use Rattle.std.specs.Prelude.{◌≡◌, ◌<◌, length, Ok, Err, MatchResult};
+ghost use Rattle.std.specs.Prelude.{◌≡◌, ◌<◌, length, Ok, Err, IfSome, MatchResult};
 ghost use Rattle.book.specs.Held.{held};
 ghost use Rattle.book.specs.Plain.{empty_label};
 ghost use Rattle.format.specs.Format.{job_number, check_number};
 ghost use Rattle.format.specs.Entered.{wanting as wanted};
-ghost use Rattle.format.specs.Faults.{count_of, work_of, kind_of, sign_of, new_name, job_named, check_named, job_line, bound_line, cut};
-ghost use Rattle.reader.specs.Says.{InList, want_in, labelled, JobSaid, BoundSaid, knows};
+ghost use Rattle.format.specs.Faults.{work_of, kind_of, sign_of};
+ghost use Rattle.reader.specs.Says.{knows, count_at, new_name_at, job_at, want_at, labelled, job_line_at, bound_line_at, JobSaid, BoundSaid};
 
 use crate::names::{job_number, reserved};
 use crate::piece::Piece;
@@ -17,7 +17,7 @@ use format::parts::{Fault, FileFault, NamePlace, Sign, Work};
 
 // The number after a line's first word, which must be the key.
 pub(crate) fn count(line: Piece, key: &[u8]) -> Result<usize, Fault>
-    ensures { result ≡ count_of key.now line.entry.line line.entry.byte (cut 32 line.entry.bytes.now) }
+    ensures { result ≡ count_at key.now line.entry }
 {
     let mut words = line.words();
     let (Some(first), Some(number), None) = (words.next(), words.next(), words.next()) else {
@@ -87,7 +87,7 @@ impl Register<'_> {
     // The number of the job that has this name.
     fn find_job(&self, name: &[u8]) -> Option<usize>
         ensures value { result ≡ job_number (knows self.now) name.now }
-        ensures within { InList result (length (held self.now.book.now).jobs) }
+        ensures within { IfSome result (λ j. j < length (held self.now.book.now).jobs) }
     {
         let count = self.book.jobs().len() - 1;
         job_number(self.text, &self.names[..count], name)
@@ -96,7 +96,7 @@ impl Register<'_> {
     // The number of the check that has this name.
     fn find_check(&self, name: &[u8]) -> Option<usize>
         ensures value { result ≡ check_number (knows self.now) name.now }
-        ensures few { InList result 8 }
+        ensures few { IfSome result (λ c. c < 8) }
     {
         let job = self.find_job(name)?;
         Some(usize::from(self.book.jobs()[job].check?))
@@ -105,8 +105,8 @@ impl Register<'_> {
     // Judges a new name.
     fn new_name(&self, word: Piece) -> Result<(), Fault>
         ensures { MatchResult result
-            (λ _. new_name (knows self.now) word.entry.line word.entry.byte word.entry.bytes.now ≡ Ok word.entry.bytes.now)
-            (λ e. new_name (knows self.now) word.entry.line word.entry.byte word.entry.bytes.now ≡ Err e) }
+            (λ _. new_name_at (knows self.now) word.entry ≡ Ok word.entry.bytes.now)
+            (λ e. new_name_at (knows self.now) word.entry ≡ Err e) }
     {
         if !is_name(word.bytes) {
             return Err(word.fault(FileFault::BadName));
@@ -122,7 +122,7 @@ impl Register<'_> {
 
     // The job that a word names.
     fn job_named(&self, word: Piece) -> Result<usize, Fault>
-        ensures { result ≡ job_named (knows self.now) word.entry.line word.entry.byte word.entry.bytes.now }
+        ensures { result ≡ job_at (knows self.now) word.entry }
     {
         if !is_name(word.bytes) {
             return Err(word.fault(FileFault::BadName));
@@ -133,7 +133,7 @@ impl Register<'_> {
 
     // A label with one more label word taken in.
     fn want(&self, label: Label, word: Piece) -> Result<Label, Fault>
-        ensures { result ≡ want_in label (knows self.now) word.entry.line word.entry.byte word.entry.bytes.now }
+        ensures { result ≡ want_at (knows self.now) word.entry label }
     {
         let Some((first, name)) = word.bytes.split_first() else {
             return Err(word.fault(FileFault::BadName));
@@ -162,8 +162,8 @@ impl Register<'_> {
     // What a line of the jobs section enters.
     pub(crate) fn entry(&self, line: Piece) -> Result<Entry, Fault>
         ensures { MatchResult result
-            (JobSaid (knows self.now) line.entry.line line.entry.byte (cut 32 line.entry.bytes.now))
-            (λ e. job_line (knows self.now) line.entry.line line.entry.byte (cut 32 line.entry.bytes.now) ≡ Err e) }
+            (JobSaid (knows self.now) line.entry)
+            (λ e. job_line_at (knows self.now) line.entry ≡ Err e) }
     {
         let mut words = line.words();
         let (Some(first), Some(name)) = (words.next(), words.next()) else {
@@ -185,8 +185,8 @@ impl Register<'_> {
     // The bound that a line of the bounds section says.
     pub(crate) fn bound(&self, line: Piece) -> Result<Bound, Fault>
         ensures { MatchResult result
-            (BoundSaid (knows self.now) line.entry.line line.entry.byte (cut 32 line.entry.bytes.now))
-            (λ e. bound_line (knows self.now) line.entry.line line.entry.byte (cut 32 line.entry.bytes.now) ≡ Err e) }
+            (BoundSaid (knows self.now) line.entry)
+            (λ e. bound_line_at (knows self.now) line.entry ≡ Err e) }
     {
         let mut words = line.words();
         let (Some(key), Some(first), Some(second), Some(number), None) = (

@@ -2,7 +2,7 @@
 ghost use Rattle.std.specs.Prelude.{◌≡◌, false, length, MatchResult, OnErr};
 ghost use Rattle.book.specs.Held.{held};
 ghost use Rattle.format.specs.Entered.{add};
-ghost use Rattle.format.specs.Faults.{cut, fault_at};
+ghost use Rattle.format.specs.Faults.{fault_at};
 ghost use Rattle.reader.specs.Names.{Stands};
 ghost use Rattle.reader.specs.Going.{Begun, Due, Taken, Faulty, LineThere, NoLine, finished};
 ghost use Rattle.reader.specs.Pieces.{Lies};
@@ -80,9 +80,9 @@ impl<'a> Reader<'a> {
         requires due { Due (length names.old) self.old.section (length (held book.old).jobs) }
         requires open { finished self.old.section ≡ false }
         ensures cases { MatchResult result
-            (λ _. Taken self.old.text.now line.entry.line line.entry.byte (cut 32 line.entry.bytes.now) self.old.section
+            (λ _. Taken self.old.text.now line.entry self.old.section
             names.old (held book.old) self.new.section names.new (held book.new))
-            (λ e. Faulty self.old.text.now line.entry.line line.entry.byte (cut 32 line.entry.bytes.now) self.old.section
+            (λ e. Faulty self.old.text.now line.entry self.old.section
             names.old (held book.old) e names.new (held book.new)) }
         ensures text { self.new.text ≡ self.old.text }
         ensures rest { self.new.rest ≡ self.old.rest }

@@ -28,7 +28,7 @@ returns-in_err-booked-in-Bounds-clause-cases c =
     let answer = ap (answered c.args.line.line c.args.line.byte) (sym c.add_bound.ensures.answer) ∙ sym c.in_err-booked-in-Bounds.ensures in
     let p = err_from_is_err_and c.from_residual-in_err-booked-in-Bounds.result c.from_residual-in_err-booked-in-Bounds.ensures.1 in
     rw (p.1, p.2, c.in-Bounds.is)
-    (bound_faulty c.args.self.now.text.now c.args.line.line c.args.line.byte _ c.args.names.now (held c.args.book.now) c.in_ok-bound-in-Bounds.bound
+    (bound_faulty c.args.self.now.text.now c.args.line c.args.names.now (held c.args.book.now) c.in_ok-bound-in-Bounds.bound
     c.in_ok-bound-in-Bounds.ensures c.in-Bounds.due c.in_err-booked-in-Bounds.field-0.0 (held c.add_bound.new.self) (some_due c.in-Bounds.due unread)
     answer c.add_bound.ensures.after)
 
@@ -40,13 +40,13 @@ overflow_sub-self-in-Bounds c =
 pub returns-else-jobs-names-clause-cases : goal.returns-else-jobs-names-clause-cases
 returns-else-jobs-names-clause-cases c =
     rw c.in-Top.is
-    (jobs_counted c.args.self.now.text.now c.args.line.line c.args.line.byte _ c.args.names.now (held c.args.book.now) c.in_ok-jobs-in-Top.jobs
+    (jobs_counted c.args.self.now.text.now c.args.line c.args.names.now (held c.args.book.now) c.in_ok-jobs-in-Top.jobs
     c.requires.stands (rw c.in-Top.is at c.requires.due) c.in_ok-jobs-in-Top.ensures c.if-jobs-names.false)
 
 pub returns-in_ok-bounds-in-Jobs-eq0-clause-cases : goal.returns-in_ok-bounds-in-Jobs-eq0-clause-cases
 returns-in_ok-bounds-in-Jobs-eq0-clause-cases c =
     rw (c.in-Jobs-eq0.is, sym c.in-Jobs-eq0.field-0-is ∙ c.in-Jobs-eq0.field-0-test)
-    (bounds_counted c.args.self.now.text.now c.args.line.line c.args.line.byte _ c.args.names.now (held c.args.book.now) c.in_ok-bounds-in-Jobs-eq0.bounds
+    (bounds_counted c.args.self.now.text.now c.args.line c.args.names.now (held c.args.book.now) c.in_ok-bounds-in-Jobs-eq0.bounds
     c.requires.stands c.in_ok-bounds-in-Jobs-eq0.ensures)
 
 pub returns-in_ok-booked-in-Jobs-clause-cases : goal.returns-in_ok-booked-in-Jobs-clause-cases
@@ -65,6 +65,6 @@ returns-in_ok-booked-in-Bounds-clause-cases c =
     let unread : finished (Bounds c.in-Bounds.due) ≡ false = rw c.in-Bounds.is at c.requires.open in
     let answer = ap (answered c.args.line.line c.args.line.byte) (sym c.add_bound.ensures.answer) ∙ sym c.in_ok-booked-in-Bounds.ensures in
     rw c.in-Bounds.is
-    (bound_taken c.args.self.now.text.now c.args.line.line c.args.line.byte _ c.args.names.now (held c.args.book.now) c.in_ok-bound-in-Bounds.bound
+    (bound_taken c.args.self.now.text.now c.args.line c.args.names.now (held c.args.book.now) c.in_ok-bound-in-Bounds.bound
     c.in_ok-bound-in-Bounds.ensures c.in-Bounds.due c.in_ok-booked-in-Bounds.field-0 (held c.add_bound.new.self) (some_due c.in-Bounds.due unread)
     c.requires.stands answer c.add_bound.ensures.after)
