@@ -23,6 +23,14 @@ impl Model for Page {
 }
 
 impl Page {
+    // An empty page.
+    pub fn new(heap: Global) -> Page
+        ensures { result ≡ [] }
+    {
+        let bytes = Vec::new(heap);
+        Page { bytes }
+    }
+
     // An empty page with room for so many bytes.
     pub fn with_capacity(heap: Global, room: usize) -> Result<Page, AllocError>
         ensures { IfOk result (λ page. page ≡ []) }
@@ -71,7 +79,10 @@ mod tests {
 
     #[test]
     fn pieces_stand_in_order(rt: HostRuntime) -> Result<(), Fail> {
-        let mut page = Page::with_capacity(rt.alloc(), 4)?;
+        let mut page = Page::new(rt.alloc());
+        page.push(b"start")?;
+        assert_eq!(rt; page.as_bytes(), b"start".as_slice());
+        page = Page::with_capacity(rt.alloc(), 4)?;
         let minute = -5i32;
         page.push(b"wet")?;
         write!(page, " {minute}\n")?;
