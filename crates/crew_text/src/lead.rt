@@ -1,80 +1,66 @@
 // Leading a crew through the run of a plan text.
 ghost use Rattle.std.specs.Prelude.{◌≡◌, ◌<◌, length, IfOk, codes};
 
-use crate::lines::{put_ending, put_events, put_fault};
-use crate::outcomes::outcomes;
+use crate::lines::{put_ending, put_events};
+use crate::outcomes::{Unsaid, outcomes};
 use book::keeping::Book;
+use format::names::{Names, Plan};
 use format::parts::NamePlace;
+use page::Page;
 use reader::{Unread, read};
-use runs::ending::Walked;
 use runs::sheet::{Readiness, RunSheet};
 use runs::walk::walk;
 use std::alloc::{AllocError, Global};
 
-// Puts a run: its log, and how it ended.
-fn put_walk(
-    heap: Global,
-    page: &mut Vec<u8>,
-    book: &Book,
-    text: &[u8],
-    places: &[NamePlace],
-    walked: &Walked,
-    given: usize,
-) -> Result<(), AllocError> {
-    put_events(heap, page, book, text, places, walked.log.events())?;
-    let over = given.saturating_sub(walked.used);
-    put_ending(heap, page, text, places, walked.ending, over)
-}
-
-// Puts the run of a plan, if it is dynamic.
+// Puts the run of a plan, if it is dynamic: its log, and how it ended.
 fn put_plan(
+    page: &mut Page,
     heap: Global,
-    page: &mut Vec<u8>,
-    book: &Book,
-    text: &[u8],
-    places: &[NamePlace],
+    plan: Plan<'_>,
     outcomes: &[bool],
 ) -> Result<(), AllocError> {
     let mut sheet = RunSheet::new(heap)?;
-    match sheet.make_ready(book) {
-        Readiness::No => page.extend_from_slice(
-            b"the plan is not dynamic: no crew is led through it\n",
-        ),
+    match sheet.make_ready(plan.book) {
+        Readiness::No => page.push(b"the plan is not dynamic: no crew is led through it\n"),
         Readiness::Yes => {
             let walked = walk(&sheet, outcomes);
-            put_walk(heap, page, book, text, places, &walked, outcomes.len())
+            put_events(page, plan, walked.log.events())?;
+            put_ending(page, plan.names, &walked, outcomes.len())
         }
     }
 }
 
 // Puts the run of a plan text, or its fault.
 fn put_text(
+    page: &mut Page,
     heap: Global,
-    page: &mut Vec<u8>,
     text: &[u8],
     outcomes: &[bool],
 ) -> Result<(), AllocError> {
     let mut book = Book::new(heap)?;
-    let mut names = [NamePlace { byte: 0, length: 0 }; 99];
-    match read(heap, text, &mut book, &mut names) {
-        Ok(_) => put_plan(heap, page, &book, text, &names, outcomes),
-        Err(unread) => match unread {
-            Unread::Fault(fault) => put_fault(heap, page, fault),
-            Unread::NoMemory => Err(AllocError),
+    let mut places = [NamePlace::default(); 99];
+    match read(heap, text, &mut book, &mut places) {
+        Ok(()) => match Names::new(text, &places) {
+            Some(names) => put_plan(page, heap, Plan { book: &book, names }, outcomes),
+            // A plan's names do stand in its text; no clause of `read` says so yet.
+            None => page.push(b"a name is not in the text\n"),
         },
+        Err(Unread::Fault(fault)) => write!(page, "{fault}\n"),
+        Err(Unread::NoMemory) => Err(AllocError),
     }
 }
 
 // Puts the run of a plan text whose checks have the outcomes that the words say.
 fn put_words(
+    page: &mut Page,
     heap: Global,
-    page: &mut Vec<u8>,
     text: &[u8],
     words: &[String],
 ) -> Result<(), AllocError> {
-    match outcomes(heap, words)? {
-        None => page.extend_from_slice(b"an outcome is neither yes nor no\n"),
-        Some(list) => put_text(heap, page, text, list.as_slice()),
+    match outcomes(heap, words) {
+        Ok(outcomes) => put_text(page, heap, text, outcomes.as_slice()),
+        Err(Unsaid::NeitherYesNorNo) => page.push(b"an outcome is neither yes nor no\n"),
+        Err(Unsaid::NoMemory(e)) => Err(e),
     }
 }
 
@@ -82,11 +68,11 @@ fn put_words(
 pub fn lead(heap: Global, text: &[u8], words: &[String]) -> Result<Vec<u8>, AllocError>
     ensures { IfOk result (λ v. 4 < length words.now → v.items ≡ codes "too many outcomes: a plan has at most 4 checks\n") }
 {
-    let mut page = Vec::new(heap);
+    let mut page = Page::new(heap);
     if words.len() > 4 {
-        page.extend_from_slice(b"too many outcomes: a plan has at most 4 checks\n")?;
-        return Ok(page);
+        page.push(b"too many outcomes: a plan has at most 4 checks\n")?;
+    } else {
+        put_words(&mut page, heap, text, words)?;
     }
-    put_words(heap, &mut page, text, words)?;
-    Ok(page)
+    Ok(page.into_bytes())
 }

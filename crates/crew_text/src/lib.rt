@@ -3,6 +3,5 @@
 
 pub mod lead;
 mod lines;
-mod names;
 mod outcomes;
-mod reasons;
+pub mod program;

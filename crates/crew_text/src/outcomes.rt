@@ -1,29 +1,31 @@
 // The outcomes of checks, as words.
 use std::alloc::{AllocError, Global};
 
-// The outcome that a word says.
-fn outcome(word: &str) -> Option<bool> {
-    if word == "yes" {
-        Some(true)
-    } else if word == "no" {
-        Some(false)
-    } else {
-        None
+// Why words say no outcomes: a word is neither yes nor no, or there is no memory for a list.
+pub(crate) enum Unsaid {
+    NeitherYesNorNo,
+    NoMemory(AllocError),
+}
+
+impl From<AllocError> for Unsaid {
+    fn from(e: AllocError) -> Unsaid {
+        Unsaid::NoMemory(e)
     }
 }
 
-// The outcomes that words say, if each is yes or no.
-pub(crate) fn outcomes(heap: Global, words: &[String]) -> Result<Option<Vec<bool>>, AllocError> {
-    let mut list = Vec::new(heap);
-    for word in words {
-        match outcome(word.as_str()) {
-            None => {
-                return Ok(None);
-            }
-            Some(yes) => {
-                list.push(yes)?;
-            }
-        }
+// The outcome that a word says.
+fn outcome(word: &str) -> Result<bool, Unsaid> {
+    match word {
+        "yes" => Ok(true),
+        "no" => Ok(false),
+        _ => Err(Unsaid::NeitherYesNorNo),
     }
-    Ok(Some(list))
+}
+
+// The outcomes that words say.
+pub(crate) fn outcomes(heap: Global, words: &[String]) -> Result<Vec<bool>, Unsaid> {
+    words
+        .iter()
+        .map(|word| outcome(word.as_str()))
+        .try_collect(heap)
 }
