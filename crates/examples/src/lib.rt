@@ -3,6 +3,8 @@
 
 ghost use Rattle.examples.specs.Worked.{Worked};
 
+pub mod plans;
+
 // Every worked example follows from the definitions.
 pub fn worked_examples()
     ensures { Worked }

@@ -3,52 +3,25 @@
 
 #[cfg(test)]
 mod tests {
-    use book::keeping::Book;
-    use book::parts::{Bound, Kind, Label};
-    use rules::parts::Origin;
+    use examples::plans::wet_hole;
+    use rules::parts::{Alternative, Origin};
     use rules::system::{RuleSystem, WithOrigins};
     use std::test::Fail;
     use systems::{dynamic_system, strong_system, weak_system};
 
-    // Puts a bound into the book.
-    fn bind(book: &mut Book, kind: Kind, first: usize, second: usize, minutes: i32) -> bool {
-        let bound = Bound {
-            kind,
-            first,
-            second,
-            minutes,
-        };
-        book.add_bound(bound).is_ok()
-    }
-
-    // Job 1 is the check `wet`, job 2 pumps where it is wet, job 3 grouts, and job 4 seals where it is not wet. Whether all was taken.
-    fn set_down(book: &mut Book) -> bool {
-        book.add_check(Label { yes: 0, no: 0 }).is_ok()
-            && book.add_job(Label { yes: 1, no: 0 }).is_ok()
-            && book.add_job(Label { yes: 0, no: 0 }).is_ok()
-            && book.add_job(Label { yes: 0, no: 1 }).is_ok()
-            && bind(book, Kind::Least, 0, 1, 60)
-            && bind(book, Kind::Least, 1, 2, 5)
-            && bind(book, Kind::Least, 2, 3, 90)
-            && bind(book, Kind::Most, 1, 4, 20)
-            && bind(book, Kind::Most, 4, 3, 10)
-    }
-
-    // A rule as it is expected: so many alternatives, the last of them the place plus the minutes.
+    // A rule as it is expected: the place held, how many alternatives it has, and the last of them.
     #[derive(Clone, Copy)]
     struct Expected {
         held: usize,
         count: usize,
-        place: usize,
-        minutes: i32,
+        last: Alternative,
     }
 
     fn rule(held: usize, place: usize, minutes: i32) -> Expected {
         Expected {
             held,
             count: 1,
-            place,
-            minutes,
+            last: Alternative { place, minutes },
         }
     }
 
@@ -56,64 +29,30 @@ mod tests {
         Expected {
             held,
             count: 2,
-            place,
-            minutes,
+            last: Alternative { place, minutes },
         }
     }
 
     // Whether rule `r` is the one expected.
     fn is_rule<S: RuleSystem>(system: &S, r: usize, expected: Expected) -> bool {
-        match (
-            system.held(r),
-            system.alternatives(r),
-            system.alternative(r, expected.count.saturating_sub(1)),
-        ) {
-            (Some(held), Some(count), Some(x)) => {
-                held == expected.held
-                    && count == expected.count
-                    && x.place == expected.place
-                    && x.minutes == expected.minutes
-            }
-            _ => false,
-        }
+        let Expected { held, count, last } = expected;
+        system.held(r) == Some(held)
+            && system.alternatives(r) == Some(count)
+            && system.alternative(r, count.saturating_sub(1)) == Some(last)
     }
 
     // Whether the system has the rules expected, and no other.
     fn has_rules<S: RuleSystem>(system: &S, rules: &[Expected]) -> bool {
-        for (r, expected) in rules.iter().enumerate() {
-            if !is_rule(system, r, *expected) {
-                return false;
-            }
-        }
         system.rules() == rules.len()
-    }
-
-    // Whether an origin is that of a bound, of a start rule or of a check rule.
-    fn is_bound(origin: Option<Origin>, i: usize) -> bool {
-        match origin {
-            Some(Origin::Bound(n)) => n == i,
-            _ => false,
-        }
-    }
-
-    fn is_start(origin: Option<Origin>, j: usize) -> bool {
-        match origin {
-            Some(Origin::Start(n)) => n == j,
-            _ => false,
-        }
-    }
-
-    fn is_check(origin: Option<Origin>, c: usize, j: usize) -> bool {
-        match origin {
-            Some(Origin::Check(d, n)) => d == c && n == j,
-            _ => false,
-        }
+            && rules
+                .iter()
+                .enumerate()
+                .all(|(r, expected)| is_rule(system, r, *expected))
     }
 
     #[test]
     fn strong_rules(rt: HostRuntime) -> Result<(), Fail> {
-        let mut book = Book::new(rt.alloc())?;
-        assert!(rt; set_down(&mut book));
+        let book = wet_hole(rt.alloc())?;
         let system = strong_system(&book);
         let rules = [
             rule(1, 0, 60),
@@ -128,18 +67,17 @@ mod tests {
             rule(2, 1, 1),
             rule(4, 1, 1),
         ];
-        assert!(rt; system.places() == 5);
+        assert_eq!(rt; system.places(), 5);
         assert!(rt; has_rules(&system, &rules));
-        assert!(rt; is_bound(system.origin(4), 4));
-        assert!(rt; is_start(system.origin(5), 1));
-        assert!(rt; is_check(system.origin(10), 0, 4));
+        assert_eq!(rt; system.origin(4), Some(Origin::Bound(4)));
+        assert_eq!(rt; system.origin(5), Some(Origin::Start(1)));
+        assert_eq!(rt; system.origin(10), Some(Origin::Check(0, 4)));
         Ok(())
     }
 
     #[test]
     fn weak_rules(rt: HostRuntime) -> Result<(), Fail> {
-        let mut book = Book::new(rt.alloc())?;
-        assert!(rt; set_down(&mut book));
+        let book = wet_hole(rt.alloc())?;
         let system = weak_system(&book, 0);
         let rules = [
             rule(1, 0, 60),
@@ -150,18 +88,17 @@ mod tests {
             rule(4, 0, 0),
             rule(4, 1, 1),
         ];
-        assert!(rt; system.places() == 5);
+        assert_eq!(rt; system.places(), 5);
         assert!(rt; has_rules(&system, &rules));
-        assert!(rt; is_bound(system.origin(1), 3));
-        assert!(rt; is_start(system.origin(4), 3));
-        assert!(rt; is_check(system.origin(6), 0, 4));
+        assert_eq!(rt; system.origin(1), Some(Origin::Bound(3)));
+        assert_eq!(rt; system.origin(4), Some(Origin::Start(3)));
+        assert_eq!(rt; system.origin(6), Some(Origin::Check(0, 4)));
         Ok(())
     }
 
     #[test]
     fn dynamic_rules(rt: HostRuntime) -> Result<(), Fail> {
-        let mut book = Book::new(rt.alloc())?;
-        assert!(rt; set_down(&mut book));
+        let book = wet_hole(rt.alloc())?;
         let system = dynamic_system(&book);
         let rules = [
             rule(1, 0, 60),
@@ -185,7 +122,7 @@ mod tests {
             last_of_two(6, 6, 1),
             last_of_two(8, 6, 1),
         ];
-        assert!(rt; system.places() == 10);
+        assert_eq!(rt; system.places(), 10);
         assert!(rt; has_rules(&system, &rules));
         Ok(())
     }

@@ -2,37 +2,11 @@
 #![tactic(auto)]
 
 use book::keeping::Book;
-use book::parts::{Bound, Kind, Label};
+use examples::plans::wet_hole;
 use find::Refusal;
 use rules::parts::Origin;
-use std::alloc::{AllocError, Global};
 use std::io;
 use verdicts::{DynamicAnswer, StrongAnswer, WeakAnswer, dynamic, strong, weak};
-
-// Adds a bound between two jobs.
-fn bind(book: &mut Book, kind: Kind, first: usize, second: usize, minutes: i32) {
-    let _ = book.add_bound(Bound {
-        kind,
-        first,
-        second,
-        minutes,
-    });
-}
-
-// The wet-hole plan: start, the check wet, pump on a yes of it, grout, and seal on a no.
-fn wet_hole(heap: Global) -> Result<Book, AllocError> {
-    let mut book = Book::new(heap)?;
-    let _ = book.add_check(Label { yes: 0, no: 0 });
-    let _ = book.add_job(Label { yes: 1, no: 0 });
-    let _ = book.add_job(Label { yes: 0, no: 0 });
-    let _ = book.add_job(Label { yes: 0, no: 1 });
-    bind(&mut book, Kind::Least, 0, 1, 60);
-    bind(&mut book, Kind::Least, 1, 2, 5);
-    bind(&mut book, Kind::Least, 2, 3, 90);
-    bind(&mut book, Kind::Most, 1, 4, 20);
-    bind(&mut book, Kind::Most, 4, 3, 10);
-    Ok(book)
-}
 
 // Prints that a verdict was refused.
 fn refused(rt: HostRuntime, verdict: &str, why: Refusal) -> io::Result<()> {
