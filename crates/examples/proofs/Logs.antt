@@ -1,6 +1,6 @@
 -- Lawful logs shown by tests that are computed.
 use Rattle.std.proofs.Common.{◌≡◌, ℕ, ◌^◌, ◌<◌, Bool, true, false, cond, not, ◌&&◌, ◌||◌, eqb, ltb, leb, ◌⊎◌, ◌↔◌, List, [], ◌∷◌, length}
-use Rattle.std.proofs.Common.{Decides, refl, inl, inr, arith}
+use Rattle.std.proofs.Common.{Decides, refl, inl, inr}
 use Rattle.std.proofs.lemmas.Bool.Decides.{Decides-and, Decides-or, Decides-not, Decides-like, Decides-eqb, Decides-ltb}
 use Rattle.book.specs.Labels.{bit, all_below}
 use Rattle.book.specs.Plain.{Plain, checks, cases, asking}
@@ -15,7 +15,7 @@ use Rattle.walks.specs.Logs.{Has, ToldAt, Heard, Agrees, Left, Awaited, NoneAwai
 use Rattle.examples.proofs.Tested.{and_left, and_right, if_true, all_true, at_most_decides}
 
 never_decides : {P : Type 0} → (P → ⊥) → Decides false P
-never_decides n = (λ e. let z : ◌≡◌ {A = ℕ} 0 1 = cc in absurd (omega arith), λ p. absurd (n p))
+never_decides n = (λ e. absurd (cc), λ p. absurd (n p))
 
 decides_three : {P Q R : Type 0} (x y z : Bool) → Decides x P → Decides y Q → Decides z R → Decides (x && (y && z)) (P × Q × R)
 decides_three x y z p q r =
@@ -105,7 +105,7 @@ same x y = cond x y (not y)
 
 same_is : {P Q : Type 0} (x y : Bool) → same x y ≡ true → Decides x P → Decides y Q → P ↔ Q
 same_is true y e p q = (λ _. q.0 e, λ _. p.0 refl)
-same_is false true e p q = let z : ◌≡◌ {A = ℕ} 0 1 = cc in absurd (omega arith)
+same_is false true e p q = absurd (cc)
 same_is false false e p q = (λ x. q.0 (p.1 x), λ x. p.0 (q.1 x))
 
 abbrev pub exactly_left : Plain → Minutes → List Event → Telling → ℕ → ℕ → Bool

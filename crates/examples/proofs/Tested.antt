@@ -22,11 +22,11 @@ and_left false y e = e
 
 pub and_right : (x y : Bool) → (x && y) ≡ true → y ≡ true
 and_right true y e = e
-and_right false y e = let z : ◌≡◌ {A = ℕ} 0 1 = cc in absurd (omega arith)
+and_right false y e = absurd (cc)
 
 pub if_true : (x y : Bool) → cond x y true ≡ true → x ≡ true → y ≡ true
 if_true true y e h = e
-if_true false y e h = let z : ◌≡◌ {A = ℕ} 0 1 = cc in absurd (omega arith)
+if_true false y e h = absurd (cc)
 
 pub all_true : (n : ℕ) (p : ℕ → Bool) → all_below n p ≡ true → (k : ℕ) → k < n → p k ≡ true
 all_true n p e = (Decides-below_and p (λ k. p k ≡ true) (λ m. all_below m p) (λ k. (λ h. h, λ h. h)) refl (λ _. refl) n).0 e

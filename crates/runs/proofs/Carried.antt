@@ -4,7 +4,8 @@ use Rattle.std.proofs.Common.{arith, length-drop, length-take}
 use mathlib.Core.Logic.{∥∥₁_elim}
 use Rattle.book.specs.declared.parts.Job.{Job}
 use Rattle.book.specs.Held.{held_sound}
-use Rattle.book.specs.Plain.{Case}
+use Rattle.book.specs.Plain.{Plain, Case}
+use Rattle.grades.specs.Grades.{Minutes}
 use Rattle.grades.proofs.Runs.{runs_alike}
 use Rattle.walks.specs.declared.parts.Telling.{Telling}
 use Rattle.walks.specs.declared.parts.Report.{Report}
@@ -17,11 +18,9 @@ use Rattle.walks.specs.Sought.{LowestSought}
 use Rattle.walks.proofs.Asks.{asked_for, none_asked}
 use Rattle.walks.proofs.Laws.{lawful_keep_law, ended_are_whole}
 use Rattle.walks.proofs.Reports.{yes_case}
-use Rattle.std.proofs.lemmas.List.{length-reverse}
 use Rattle.walks.proofs.Readied.{row_fits, first_with}
 use Rattle.walks.proofs.Single.{lawful_single, ended_single}
 use Rattle.walks.proofs.Steps.{tells, ends, few_events, last_of}
-use Rattle.runs.specs.declared.log.Log.{Log}
 use Rattle.runs.specs.declared.sheet.RunSheet.{RunSheet}
 use Rattle.runs.specs.declared.state.Run.{Run}
 use Rattle.runs.specs.declared.state.Walking.{Walking}
@@ -49,84 +48,90 @@ first_in sheet jobs case e h from r f =
     simp (length-take, length-drop) (omega arith) in
     first_with (plan sheet) (times sheet) sheet.minutes sheet.shown case h _ is long from r f
 
--- a log has few events
-pub short : (log : Log) → length (recorded log) ≤ 24
-short log = let f = log.few in simp length-reverse f
+-- the plan, the minutes and the log of a run
+abbrev pub plan_of : Run → Plain
+plan_of r = plan r.sheet.now
+
+abbrev pub times_of : Run → Minutes
+times_of r = times r.sheet.now
+
+abbrev pub log_of : Run → List Event
+log_of r = recorded r.log
 
 -- what a run carries
 module _ (run : Run) where
   -- the check to be asked for, by the sets that the log keeps
-  pub asked_next : (c : ℕ) → LowestSought (plan run.sheet.now) run.log.just run.log.heard (Some c) → Asked (plan run.sheet.now) (recorded run.log) c
+  pub asked_next : (c : ℕ) → LowestSought (plan_of run) run.log.just run.log.heard (Some c) → Asked (plan_of run) (log_of run) c
   asked_next c h =
-      asked_for (plan run.sheet.now) (recorded run.log) c
-      (subst (λ x. LowestSought (plan run.sheet.now) x (heard_set (recorded run.log)) (Some c)) run.log.just_is
-      (subst (λ x. LowestSought (plan run.sheet.now) run.log.just x (Some c)) run.log.heard_is h))
+      asked_for (plan_of run) (log_of run) c
+      (subst (λ x. LowestSought (plan_of run) x (heard_set (log_of run)) (Some c)) run.log.just_is
+      (subst (λ x. LowestSought (plan_of run) run.log.just x (Some c)) run.log.heard_is h))
 
-  pub none_next : LowestSought (plan run.sheet.now) run.log.just run.log.heard None → NoneAwaited (plan run.sheet.now) (recorded run.log)
+  pub none_next : LowestSought (plan_of run) run.log.just run.log.heard None → NoneAwaited (plan_of run) (log_of run)
   none_next h =
-      none_asked (plan run.sheet.now) (recorded run.log)
-      (subst (λ x. LowestSought (plan run.sheet.now) x (heard_set (recorded run.log)) None) run.log.just_is
-      (subst (λ x. LowestSought (plan run.sheet.now) run.log.just x None) run.log.heard_is h))
+      none_asked (plan_of run) (log_of run)
+      (subst (λ x. LowestSought (plan_of run) x (heard_set (log_of run)) None) run.log.just_is
+      (subst (λ x. LowestSought (plan_of run) run.log.just x None) run.log.heard_is h))
 
-  pub keeps : Keeps run.sheet.now (recorded run.log) run
-  keeps = record { on_sheet = refl; has_log = refl; law = lawful_keep_law (plan run.sheet.now) (times run.sheet.now) (recorded run.log) run.law }
+  pub keeps : Keeps run.sheet.now (log_of run) run
+  keeps = record { on_sheet = refl; has_log = refl; law = lawful_keep_law (plan_of run) (times_of run) (log_of run) run.law }
 
   -- there is room for one event more
-  pub room : (e : Event) → Lawful (plan run.sheet.now) (times run.sheet.now) (e ∷ recorded run.log) → length (recorded run.log) < 24
+  pub room : (e : Event) → Lawful (plan_of run) (times_of run) (e ∷ log_of run) → length (log_of run) < 24
   room e l =
-      let f = few_events (plan run.sheet.now) (times run.sheet.now) (e ∷ recorded run.log) l in
+      let f = few_events (plan_of run) (times_of run) (e ∷ log_of run) l in
       let j = (held_sound run.sheet.now.book).few_jobs in
       let c = (held_sound run.sheet.now.book).few_checks in
       omega arith
 
   -- a run that is at its end
-  pub ran : Ended (plan run.sheet.now) (recorded run.log) → Ran run.sheet.now (recorded run.log)
+  pub ran : Ended (plan_of run) (log_of run) → Ran run.sheet.now (log_of run)
   ran e = record {
-    law = lawful_keep_law (plan run.sheet.now) (times run.sheet.now) (recorded run.log) run.law;
+    law = lawful_keep_law (plan_of run) (times_of run) (log_of run) run.law;
     ended = e;
-    whole = ended_are_whole (plan run.sheet.now) (times run.sheet.now) (recorded run.log) run.law e;
+    whole = ended_are_whole (plan_of run) (times_of run) (log_of run) run.law e;
   }
 
   -- something was told by then: `start`, at least
-  pub last_told : Ended (plan run.sheet.now) (recorded run.log) → (m : ℕ) × (last_minute (recorded run.log) ≡ Some m) × (time (recorded run.log) ≡ m + 1)
-  last_told e = last_of (plan run.sheet.now) (held_sound run.sheet.now.book) (times run.sheet.now) (recorded run.log) run.law e
+  pub last_told : Ended (plan_of run) (log_of run) → (m : ℕ) × (last_minute (log_of run) ≡ Some m) × (time (log_of run) ≡ m + 1)
+  last_told e = last_of (plan_of run) (held_sound run.sheet.now.book) (times_of run) (log_of run) run.law e
 
 -- what comes first in the leading case, that of the checks reported yes
 module _ (r : Walking) where
-  leading : Case (plan r.run.sheet.now) r.run.log.yes
-  leading = subst (λ s. Case (plan r.run.sheet.now) s) (sym r.run.log.yes_is) (yes_case (plan r.run.sheet.now) (times r.run.sheet.now) (recorded r.run.log) r.run.law)
+  leading : Case (plan_of r.run) r.run.log.yes
+  leading = subst (λ s. Case (plan_of r.run) s) (sym r.run.log.yes_is) (yes_case (plan_of r.run) (times_of r.run) (log_of r.run) r.run.law)
 
-  first_come : (next : Option Telling) → Opens (plan r.run.sheet.now) (times r.run.sheet.now) r.run.log.yes r.run.log.time next →
-      First (plan r.run.sheet.now) (times r.run.sheet.now) (yes_set (recorded r.run.log)) (time (recorded r.run.log)) next
+  first_come : (next : Option Telling) → Opens (plan_of r.run) (times_of r.run) r.run.log.yes r.run.log.time next →
+      First (plan_of r.run) (times_of r.run) (yes_set (log_of r.run)) (time (log_of r.run)) next
   first_come next o =
-      subst (λ s. First (plan r.run.sheet.now) (times r.run.sheet.now) s (time (recorded r.run.log)) next) r.run.log.yes_is
-      (subst (λ f. First (plan r.run.sheet.now) (times r.run.sheet.now) r.run.log.yes f next) r.run.log.time_is (o leading))
+      subst (λ s. First (plan_of r.run) (times_of r.run) s (time (log_of r.run)) next) r.run.log.yes_is
+      (subst (λ f. First (plan_of r.run) (times_of r.run) r.run.log.yes f next) r.run.log.time_is (o leading))
 
-  module _ (next : Option Telling) (opens : Opens (plan r.run.sheet.now) (times r.run.sheet.now) r.run.log.yes r.run.log.time next) where
+  module _ (next : Option Telling) (opens : Opens (plan_of r.run) (times_of r.run) r.run.log.yes r.run.log.time next) where
     -- it is right to tell it
-    pub told : (t : Telling) → next ≡ Some t → Lawful (plan r.run.sheet.now) (times r.run.sheet.now) (Told t ∷ recorded r.run.log)
+    pub told : (t : Telling) → next ≡ Some t → Lawful (plan_of r.run) (times_of r.run) (Told t ∷ log_of r.run)
     told t is =
-        let first = subst (First (plan r.run.sheet.now) (times r.run.sheet.now) (yes_set (recorded r.run.log)) (time (recorded r.run.log))) is
+        let first = subst (First (plan_of r.run) (times_of r.run) (yes_set (log_of r.run)) (time (log_of r.run))) is
         (first_come next opens) in
-        ∥∥₁_elim r.run.sheet.now.earliest (lawful_single (plan r.run.sheet.now) (times r.run.sheet.now) (Told t ∷ recorded r.run.log)) (λ e. (
+        ∥∥₁_elim r.run.sheet.now.earliest (lawful_single (plan_of r.run) (times_of r.run) (Told t ∷ log_of r.run)) (λ e. (
           r.run.law,
           (
             r.idle,
-            tells runs_alike (plan r.run.sheet.now) (held_sound r.run.sheet.now.book) (times r.run.sheet.now) e.good
-                (recorded r.run.log) r.run.law r.idle t first,
+            tells runs_alike (plan_of r.run) (held_sound r.run.sheet.now.book) (times_of r.run) e.good
+                (log_of r.run) r.run.law r.idle t first,
           ),
         ))
 
     -- with nothing more to come the run is at its end
-    pub ended : next ≡ None → Ended (plan r.run.sheet.now) (recorded r.run.log)
+    pub ended : next ≡ None → Ended (plan_of r.run) (log_of r.run)
     ended is =
-        let over = subst (First (plan r.run.sheet.now) (times r.run.sheet.now) (yes_set (recorded r.run.log)) (time (recorded r.run.log))) is
+        let over = subst (First (plan_of r.run) (times_of r.run) (yes_set (log_of r.run)) (time (log_of r.run))) is
         (first_come next opens) in
-        ∥∥₁_elim r.run.sheet.now.earliest (ended_single (plan r.run.sheet.now) (recorded r.run.log)) (λ e.
-        ends runs_alike (plan r.run.sheet.now) (held_sound r.run.sheet.now.book) (times r.run.sheet.now) e.good
-        (recorded r.run.log) r.run.law r.idle over)
+        ∥∥₁_elim r.run.sheet.now.earliest (ended_single (plan_of r.run) (log_of r.run)) (λ e.
+        ends runs_alike (plan_of r.run) (held_sound r.run.sheet.now.book) (times_of r.run) e.good
+        (log_of r.run) r.run.law r.idle over)
 
 -- a report of the check asked for is right
 pub heard : (r : Asking) (report : Report) → report.check ≡ r.check →
-    Lawful (plan r.run.sheet.now) (times r.run.sheet.now) (Reported report ∷ recorded r.run.log)
-heard r report e = (r.run.law, subst (λ c. Asked (plan r.run.sheet.now) (recorded r.run.log) c) (sym e) r.asks)
+    Lawful (plan_of r.run) (times_of r.run) (Reported report ∷ log_of r.run)
+heard r report e = (r.run.law, subst (λ c. Asked (plan_of r.run) (log_of r.run) c) (sym e) r.asks)

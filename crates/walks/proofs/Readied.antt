@@ -75,14 +75,8 @@ each_same (suc n) f g h =
 
 -- a number that shows a job's minute
 shows_done : (t : Bool) (m v : ℕ) → natural (cond t (pos m) (negsuc 0)) ≡ Some v → (t ≡ true) × (m ≡ v)
-shows_done true m v e = (refl, some_is m v e)
-  where
-    some_is : (x y : ℕ) → ◌≡◌ {A = Option ℕ} (Some x) (Some y) → x ≡ y
-    some_is x y p = cc
-shows_done false m v e = absurd (none_some v e)
-  where
-    none_some : (y : ℕ) → ◌≡◌ {A = Option ℕ} None (Some y) → ⊥
-    none_some y p = let z : ◌≡◌ {A = ℕ} 0 1 = cc in omega arith
+shows_done true m v e = (refl, cc)
+shows_done false m v e = absurd (cc)
 
 -- the rows of a list that begins with the minutes of a strategy
 module _ (b : Plain) (M : Minutes) (list : List ℤ) (begins : take (cases b * length b.jobs) list ≡ listed b M) where
