@@ -1,5 +1,6 @@
 -- The pieces of a text.
-use Rattle.std.proofs.Common.{◌≡◌, ℕ, ◌+◌, ◌<◌, ◌≤◌, Bool, true, false, cond, eqb, ◌⊎◌, List, [], ◌∷◌, ◌++◌, length, take, drop, ltb, not, Some, None, Option, MatchOption, sym, refl, ap, ◌∙◌, arith}
+use Rattle.std.proofs.Common.{◌≡◌, ℕ, ◌+◌, ◌<◌, ◌≤◌, Bool, true, false, cond, eqb, ◌⊎◌, List, [], ◌∷◌, ◌++◌, length, take, drop, ltb, not, Some, None}
+use Rattle.std.proofs.Common.{Option, MatchOption, sym, refl, ap, ◌∙◌, arith}
 use Rattle.std.proofs.lemmas.List.{length-append, take-take, drop-take, drop-drop}
 use Rattle.std.proofs.Math.Seq.{take-append_seam, drop-append_seam}
 use Rattle.reader.specs.declared.piece.Piece.{Piece}
@@ -48,7 +49,9 @@ cut_at c xs r e = go (ltb (position_or_len p xs) (length xs)) refl r e
         rw k (
           l,
           cut_is c xs ∙ (slice_split_first (λ x. eqb x c) xs 0 l ∙ ap (λ ws. take (position_or_len (λ x. eqb x c) xs) xs ∷ ws) (sym (cut_is c _))),
-          split_at_first (λ x. eqb x c) xs 0 l ∙ ap (λ y. take (position_or_len (λ x. eqb x c) xs) xs ++ (y ∷ drop (position_or_len (λ x. eqb x c) xs + 1) xs)) (eqb-true _ c (passes_at_first (λ x. eqb x c) xs 0 l)),
+          split_at_first (λ x. eqb x c) xs 0 l
+              ∙ ap (λ y. take (position_or_len (λ x. eqb x c) xs) xs ++ (y ∷ drop (position_or_len (λ x. eqb x c) xs + 1) xs))
+              (eqb-true _ c (passes_at_first (λ x. eqb x c) xs 0 l)),
         )
     go true h None q = cc
     go false h (Some n) q = cc

@@ -1,5 +1,6 @@
 -- What a line that is taken in a section leaves behind, and what one with a fault does.
-use Rattle.std.proofs.Common.{◌≡◌, ℕ, zero, suc, false, ◌+◌, ◌-◌, ◌≤◌, List, [], ◌∷◌, ◌++◌, length, map, Some, None, Ok, Err, codes, Option, Result, slice_set, sym, refl, ap, ◌∙◌, arith}
+use Rattle.std.proofs.Common.{◌≡◌, ℕ, zero, suc, false, ◌+◌, ◌-◌, ◌≤◌, List, [], ◌∷◌, ◌++◌, length, map, Some, None, Ok, Err, codes, Option, Result}
+use Rattle.std.proofs.Common.{slice_set, sym, refl, ap, ◌∙◌, arith}
 use Rattle.std.proofs.lemmas.Bool.{le-leb}
 use Rattle.std.proofs.lemmas.List.{append-nil, length-append}
 use Rattle.book.specs.declared.parts.Bound.{Bound}
@@ -15,7 +16,8 @@ use Rattle.format.specs.declared.parts.Fault.{Fault}
 use Rattle.format.specs.declared.parts.NamePlace.{NamePlace}
 use Rattle.format.specs.Format.{JobLine, BoundLine, want_word, work_word, kind_word, job_words}
 use Rattle.format.specs.Entered.{add, call_job, label_in}
-use Rattle.format.specs.Faults.{booked, cut, line_name, if_work, work_of, count_of, jobs_count, job_line, bound_line, job_of, bound_of, Reading, with_job_line, with_bound_line}
+use Rattle.format.specs.Faults.{booked, cut, line_name, if_work, work_of, count_of, jobs_count, job_line, bound_line, job_of, bound_of, Reading}
+use Rattle.format.specs.Faults.{with_job_line, with_bound_line}
 use Rattle.format.proofs.Steps.{no_fault, no_ok, same_err, then_is, then_no}
 use Rattle.format.proofs.Cuts.{joined, joined_cut}
 use Rattle.format.proofs.Lines.{work_complete, job_sound, bound_sound, count_sound}
@@ -49,7 +51,8 @@ module _ (text : List ℕ) (p : Piece) (ns : List NamePlace) (o : Plain) where
     says = λ s k. (s, k, says s);
   }
 
-  pub jobs_counted : (n : ℕ) → Stands text ns o → Due (length ns) Top (length o.jobs) → Ok n ≡ count_of (codes "jobs") p.line p.byte (words_of p) → n ≤ length ns
+  pub jobs_counted : (n : ℕ) → Stands text ns o → Due (length ns) Top (length o.jobs)
+      → Ok n ≡ count_of (codes "jobs") p.line p.byte (words_of p) → n ≤ length ns
       → Taken text p Top ns o (Jobs n) ns o
   jobs_counted n h due e few =
       let counts : jobs_count (length ns) p.line p.byte (words_of p) ≡ Ok n =
@@ -184,17 +187,20 @@ module _ (text : List ℕ) (p : Piece) (ns : List NamePlace) (o : Plain) (x : Bo
     (j : BoundSaid (known_by text ns o) p x) where
   bound_says : {r : Result BoundLine Fault} (s : Reading) → Holds text ns o s → bound_of (known_by text ns o) o p.line p.byte (words_of p) ≡ r
       → bound_of s.known s.book p.line p.byte (words_of p) ≡ r
-  bound_says s h q = ap (λ k. bound_of k s.book p.line p.byte (words_of p)) h.known ∙ (ap (λ k. bound_of (known_by text ns o) k p.line p.byte (words_of p)) h.book ∙ q)
+  bound_says s h q = ap (λ k. bound_of k s.book p.line p.byte (words_of p)) h.known
+      ∙ (ap (λ k. bound_of (known_by text ns o) k p.line p.byte (words_of p)) h.book ∙ q)
 
   bound_asked : bound_of (known_by text ns o) o p.line p.byte (words_of p) ≡ booked p.line p.byte (add_bound o x).answer j.line
-  bound_asked = then_is (bound_line (known_by text ns o) p.line p.byte (words_of p)) _ j.line j.says ∙ ap (λ y. booked p.line p.byte (add_bound o y).answer j.line) j.bound
+  bound_asked = then_is (bound_line (known_by text ns o) p.line p.byte (words_of p)) _ j.line j.says
+      ∙ ap (λ y. booked p.line p.byte (add_bound o y).answer j.line) j.bound
 
   unnamed : line_name p.byte (words_of p) ≡ []
   unnamed =
       let w = (bound_sound (known_by text ns o) p.line p.byte (words_of p) j.line j.says).0 in
       ap (line_name p.byte) w ∙ rw (no_work j.line.kind) refl
 
-  pub bound_taken : (n : ℕ) (u : Unit {0}) (o' : Plain) → 1 ≤ n → Stands text ns o → answered p.line p.byte (add_bound o x).answer ≡ Ok u → o' ≡ (add_bound o x).after
+  pub bound_taken : (n : ℕ) (u : Unit {0}) (o' : Plain) → 1 ≤ n → Stands text ns o → answered p.line p.byte (add_bound o x).answer ≡ Ok u
+      → o' ≡ (add_bound o x).after
       → Taken text p (Bounds n) ns o (Bounds (n - 1)) ns o'
   bound_taken zero u o' some st q a = absurd (omega arith)
   bound_taken (suc k) u o' some st q a =

@@ -68,7 +68,8 @@ module _ (text : List ℕ) (p : Piece) (x : Section) (ns : List NamePlace) (o : 
     pub due : Due (length ns) x' (length o'.jobs)
     pub noted : ns' ≡ note ns (length o.jobs - 1) (line_name p.byte (words_of p))
     pub more : length o'.jobs ≡ length o.jobs + length (line_name p.byte (words_of p))
-    pub says : (s : Reading) → Holds text ns o s → (s' : Reading) × Holds text ns' o' s' × (heard (length ns) x s p.line p.byte (words_of p) ≡ Ok (reached x' s'))
+    pub says : (s : Reading) → Holds text ns o s
+        → (s' : Reading) × Holds text ns' o' s' × (heard (length ns) x s p.line p.byte (words_of p) ≡ Ok (reached x' s'))
 
   -- or it has a fault, and nothing is altered
   pub record Faulty (e : Fault) (ns' : List NamePlace) (o' : Plain) : Type 0 where

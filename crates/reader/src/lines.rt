@@ -5,7 +5,8 @@ ghost use Rattle.book.specs.Plain.{empty_label};
 ghost use Rattle.format.specs.Format.{job_number, check_number};
 ghost use Rattle.format.specs.Entered.{wanting as wanted};
 ghost use Rattle.format.specs.Faults.{work_of, kind_of, sign_of};
-ghost use Rattle.reader.specs.Says.{knows, count_at, new_name_at, job_at, want_at, labelled, job_line_at, bound_line_at, JobSaid, BoundSaid};
+ghost use Rattle.reader.specs.Says.{knows, count_at, new_name_at, job_at, want_at, labelled};
+ghost use Rattle.reader.specs.Says.{job_line_at, bound_line_at, JobSaid, BoundSaid};
 
 use crate::names::{job_number, reserved};
 use crate::piece::Piece;
@@ -30,7 +31,7 @@ pub(crate) fn count(line: Piece, key: &[u8]) -> Result<usize, Fault>
     Ok(n as usize)
 }
 
-// What a word enters.
+// What a word enters. The three tables below answer types of other crates, so they are no TryFrom, and one of them for all would be longer.
 #[tactic(auto, using(std::proofs::lemmas::Grind::common_steps, crate::proofs::Pieces::not_same))]
 fn work_of(word: &[u8]) -> Option<Work>
     ensures { result ≡ work_of word.now }

@@ -6,7 +6,7 @@ ghost use Rattle.reader.specs.declared.place.Unread.TheVariants.{NoMemory as Mem
 use format::parts::{Fault, FileFault, Reason};
 use std::alloc::AllocError;
 
-// Why a text is not read: a fault in it, or no memory for a new book.
+// Why a text is not read: a fault in it, or no memory for a new book. An error of two causes, so no Option: `None` would name neither.
 #[derive(Clone, Copy)]
 pub enum Unread {
     Fault(Fault),

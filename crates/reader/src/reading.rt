@@ -68,7 +68,7 @@ impl<'a> Reader<'a> {
         Ok(line)
     }
 
-    // Enters what a line says, or alters nothing.
+    // Enters what a line says, or alters nothing. The section is where the text has got to, so a match tells plainest what each line does.
     fn take(
         &mut self,
         line: Piece<'a>,
