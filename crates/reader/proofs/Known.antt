@@ -1,8 +1,11 @@
 -- What has been read after a line that is entered.
-use Rattle.std.proofs.Common.{◌≡◌, ℕ, ◌-◌, ◌≤◌, List, [], ◌∷◌, ◌++◌, length, get_or, take, drop, Some, None, Option, sym, refl, ap, ◌∙◌, arith}
+use Rattle.std.proofs.Common.{◌≡◌, ℕ, ◌+◌, ◌-◌, ◌≤◌, false, cond, List, [], ◌∷◌, ◌++◌, length, get_or, take, drop, Some, None, Option, sym, refl, ap, ◌∙◌, arith}
+use Rattle.std.specs.List.{count_by}
+use Rattle.std.specs.Option.{is_some}
 use Rattle.std.proofs.lemmas.List.{length-drop, drop-append-le}
+use Rattle.std.proofs.lemmas.List.Sums.{sum_by-cons}
 use Rattle.book.specs.declared.parts.Job.{Job}
-use Rattle.book.specs.Plain.{Plain, no_job, checks, checks_among, one_if_check}
+use Rattle.book.specs.Plain.{Plain, no_job, checks}
 use Rattle.book.specs.Sound.{Sound}
 use Rattle.format.specs.declared.parts.NamePlace.{NamePlace}
 use Rattle.format.specs.Format.{start_known, one_if, checks_in, numbered, after}
@@ -22,24 +25,34 @@ named_push text (n ∷ ns) p [] j h = absurd (omega arith)
 named_push text (n ∷ ns) p (x ∷ js) j h = ap (λ t. record { name = slice text n; check = x.check } ∷ t) (named_push text ns p js j (omega arith))
 
 -- the checks known are those of the book
-one_same : (o : Option ℕ) → one_if o ≡ one_if_check o
+one_same : (o : Option ℕ) → one_if o ≡ cond (is_some o) 1 0
 one_same None = refl
 one_same (Some c) = refl
 
-named_checks : (text : List ℕ) (ns : List NamePlace) (js : List Job) → length ns ≡ length js → checks_in (named text ns js) ≡ checks_among js
+abbrev counted : Job → ℕ
+counted j = cond (is_some j.check) 1 0
+
+named_checks : (text : List ℕ) (ns : List NamePlace) (js : List Job) → length ns ≡ length js
+    → checks_in (named text ns js) ≡ count_by (λ j. is_some j.check) js
 named_checks text [] [] h = refl
 named_checks text [] (j ∷ js) h = absurd (omega arith)
 named_checks text (n ∷ ns) [] h = absurd (omega arith)
-named_checks text (n ∷ ns) (j ∷ js) h = omega (arith, one_same j.check, named_checks text ns js (omega arith))
+named_checks text (n ∷ ns) (j ∷ js) h =
+    let more = sum_by-cons counted j js in
+    omega (arith, one_same j.check, named_checks text ns js (omega arith), more)
 
-first_free : (js : List Job) → 1 ≤ length js → one_if_check (get_or js 0 no_job).check ≡ 0 → checks_among js ≡ checks_among (drop 1 js)
+first_free : (js : List Job) → 1 ≤ length js → is_some (get_or js 0 no_job).check ≡ false
+    → count_by (λ j. is_some j.check) js ≡ count_by (λ j. is_some j.check) (drop 1 js)
 first_free [] h e = refl
-first_free (j ∷ js) h e = omega arith
+first_free (j ∷ js) h e =
+    let more = sum_by-cons counted j js in
+    let none : counted j ≡ 0 = ap (λ t. cond t 1 0) e in
+    omega (arith, more, none)
 
 known_checks : (text : List ℕ) (ns : List NamePlace) (b : Plain) → Named text ns b → Sound b → checks_in (known_in text ns b) ≡ checks b
 known_checks text ns b h s =
     let a = named_checks text ns (drop 1 b.jobs) (omega (arith, h.counted, length-drop 1 b.jobs)) in
-    let z = first_free b.jobs s.some (ap one_if_check s.start_asks_nothing) in
+    let z = first_free b.jobs s.some (ap is_some s.start_asks_nothing) in
     omega (arith, a, z)
 
 module _ (text : List ℕ) (l b : ℕ) (ws : List (List ℕ)) (ns : List NamePlace) (o : Plain) (ns' : List NamePlace) (o' : Plain) where

@@ -2,6 +2,7 @@
 // a struct that holds a `&mut` to one can keep no fact about it in its type.
 ghost use Rattle.std.specs.Prelude.{◌≡◌, ◌≤◌, length};
 ghost use Rattle.book.specs.Held.{held};
+ghost use Rattle.verdicts.specs.declared.answers.WeakAnswer.TheVariants.{No as WeakNo};
 ghost use Rattle.verdicts.specs.Filling.{StrongEnds, DynamicEnds};
 ghost use Rattle.verdicts.specs.Verdicts.{size, StrongAnswered, WeakAnswered, DynamicAnswered};
 
@@ -53,6 +54,13 @@ pub fn strong(
     Ok(end_strong(found, book, &table, minutes))
 }
 
+// The answer where a case fails, with how many of its rules are a loop.
+fn fails(case: u8, length: usize) -> WeakAnswer
+    ensures { result ≡ WeakNo case length }
+{
+    WeakAnswer::No { case, length }
+}
+
 // Whether there is a timetable for each set of outcomes, known in advance.
 pub fn weak(book: &Book, minutes: &mut [i32], loops: &mut [Origin]) -> Result<WeakAnswer, Refusal>
     ensures { WeakAnswered (held book.now) minutes.old minutes.new loops.old loops.new result }
@@ -68,7 +76,7 @@ pub fn weak(book: &Book, minutes: &mut [i32], loops: &mut [Origin]) -> Result<We
         let found = search_case(book, case, &mut table, loops)?;
         match found {
             Explained::Table => {}
-            Explained::Loop(length) => return Ok(WeakAnswer::No { case, length }),
+            Explained::Loop(length) => return Ok(fails(case, length)),
         }
     }
     fill(book, &table, book.jobs().len(), minutes);

@@ -45,6 +45,7 @@ returns-in-Loop c =
     let said = means before after loops loops_after refl refl (ap Ok c.in-Loop.is) c.in_ok-found.ensures.said in
     let (none, lowest, looped) = weak_loop b (held_sound book) s c.loop-case.table before after loops loops_after n is c.loop-case.invariant.0 said in
     let first = subst (λ xs. Looped (weak_system b s) (weak_origins b s) xs loops_after n) c.loop-case.invariant.1 looped in
+    subst (λ a. WeakAnswered b c.args.minutes.now c.args.minutes.now c.args.loops.now loops_after (Ok a)) (sym c.fails.ensures)
     ((omega (arith, c.size.ensures), c.if-loops-lt20.false), (none, lowest, first, refl))
 
 pub loop-case-preserved : goal.loop-case-preserved
