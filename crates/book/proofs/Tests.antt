@@ -1,6 +1,6 @@
 -- The tests on labels decide what they say.
-use Rattle.std.proofs.Common.{◌≡◌, ℕ, ◌+◌, ◌/◌, ◌^◌, ◌<◌, ◌≤◌, max, Bool, true, false, cond, not, ◌&&◌, ◌||◌, eqb, leb, ◌⊎◌, Decides, sym, refl, inl, inr}
-use Rattle.std.proofs.Common.{ap, ◌∙◌, arith}
+use Rattle.std.proofs.Common.{◌≡◌, ℕ, ◌/◌, ◌^◌, ◌<◌, ◌≤◌, max, Bool, true, false, cond, not, ◌&&◌, ◌||◌, eqb, leb, ◌⊎◌, Decides, sym, refl, inl, inr}
+use Rattle.std.proofs.Common.{◌∙◌, arith}
 use lib.Bits.{bit_and, bit_or, or_lt}
 use Rattle.std.proofs.lemmas.Bool.Decides.{nat_tests, Decides-below_and, Decides-below_or, Decides-and, Decides-or, Decides-like, Decides-eqb}
 use Rattle.book.specs.declared.parts.Label.{Label}
