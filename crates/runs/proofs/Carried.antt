@@ -1,8 +1,7 @@
 -- What a run keeps in its type from one call to the next.
-use Rattle.std.proofs.Common.{◌≡◌, ℕ, ◌+◌, ◌-◌, ◌*◌, ◌<◌, ◌≤◌, List, ◌∷◌, length, take, drop, Some, None, Option, refl, sym, ap, ◌∙◌, subst}
-use Rattle.std.proofs.Common.{arith, length-drop, length-take}
+use Rattle.std.proofs.Common.{◌≡◌, ℕ, ◌+◌, ◌<◌, List, ◌∷◌, length, Some, None, Option, refl, sym, subst}
+use Rattle.std.proofs.Common.{arith}
 use mathlib.Core.Logic.{∥∥₁_elim}
-use Rattle.book.specs.declared.parts.Job.{Job}
 use Rattle.book.specs.Held.{held_sound}
 use Rattle.book.specs.Plain.{Plain, Case}
 use Rattle.grades.specs.Grades.{Minutes}
@@ -13,40 +12,18 @@ use Rattle.walks.specs.declared.parts.Event.{Event}
 use Rattle.walks.specs.declared.parts.Event.TheVariants.{Told, Reported}
 use Rattle.walks.specs.Logs.{Lawful, NoneAwaited, Asked, Ended, last_minute}
 use Rattle.walks.specs.Standing.{yes_set, heard_set, time, First, Opens}
-use Rattle.walks.specs.Rows.{FirstFrom}
 use Rattle.walks.specs.Sought.{LowestSought}
 use Rattle.walks.proofs.Asks.{asked_for, none_asked}
 use Rattle.walks.proofs.Laws.{lawful_keep_law, ended_are_whole}
 use Rattle.walks.proofs.Reports.{yes_case}
-use Rattle.walks.proofs.Readied.{row_fits, first_with}
 use Rattle.walks.proofs.Single.{lawful_single, ended_single}
 use Rattle.walks.proofs.Steps.{tells, ends, few_events, last_of}
-use Rattle.runs.specs.declared.sheet.RunSheet.{RunSheet}
 use Rattle.runs.specs.declared.state.Run.{Run}
 use Rattle.runs.specs.declared.state.Walking.{Walking}
 use Rattle.runs.specs.declared.state.Asking.{Asking}
 use Rattle.runs.specs.Recorded.{recorded}
 use Rattle.runs.specs.Sheets.{plan, times}
 use Rattle.runs.specs.Steps.{Keeps, Ran}
-
--- a case's row lies within the sheet's minutes
-pub within : (sheet : RunSheet) (jobs : List Job) (case : ℕ) → jobs ≡ (plan sheet).jobs → Case (plan sheet) case → case * length jobs + length jobs ≤ 320
-within sheet jobs case e h = subst (λ js. case * length js + length js ≤ 320) (sym e) (row_fits (plan sheet) (held_sound sheet.book) case h)
-
--- what a case's row of the sheet begins with is what comes first in the case
-pub first_in : (sheet : RunSheet) (jobs : List Job) (case : ℕ) → jobs ≡ (plan sheet).jobs → Case (plan sheet) case → (from : ℕ) (r : Option Telling) →
-    FirstFrom (take (case * length jobs + length jobs - case * length jobs) (drop (case * length jobs) sheet.minutes)) from r →
-    First (plan sheet) (times sheet) case from r
-first_in sheet jobs case e h from r f =
-    let n = length jobs in
-    let same : n ≡ length (plan sheet).jobs = ap length e in
-    let one : case * n + n - case * n ≡ n = omega arith in
-    let w = within sheet jobs case e h in
-    let z = sheet.sized in
-    let is = ap (λ k. take k (drop (case * n) sheet.minutes)) one ∙ ap (λ k. take k (drop (case * k) sheet.minutes)) same in
-    let long : length (take (case * n + n - case * n) (drop (case * n) sheet.minutes)) ≡ length (plan sheet).jobs =
-    simp (length-take, length-drop) (omega arith) in
-    first_with (plan sheet) (times sheet) sheet.minutes sheet.shown case h _ is long from r f
 
 -- the plan, the minutes and the log of a run
 abbrev pub plan_of : Run → Plain

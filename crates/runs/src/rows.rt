@@ -30,6 +30,7 @@ fn is_due(shown: i32, minute: u32) -> bool
 }
 
 // The set of the jobs due in this minute.
+#[tactic(auto, using(walks::proofs::Scanned::jobs_more, walks::proofs::Scanned::jobs_same))]
 fn due_in(row: &[i32], minute: u32) -> u32
     requires few { length row.now ≤ 20 }
     ensures { JobsBelow row.now minute (length row.now) result }

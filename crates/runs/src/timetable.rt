@@ -7,15 +7,14 @@ use crate::sheet::RunSheet;
 use walks::parts::Telling;
 
 impl RunSheet {
-    // What comes first in a case from a minute on; nothing in what is no case.
+    // What comes first in a case from a minute on.
     pub(crate) fn first(&self, case: u8, from: u64) -> Option<Telling>
         ensures { Opens (plan self.now) (times self.now) case from result }
     {
-        if case >= self.book.cases() {
-            return None;
-        }
-        let jobs = self.book.jobs().len();
-        let start = case as usize * jobs;
-        first_from(&self.minutes[start..start + jobs], from)
+        let row = self
+            .minutes
+            .chunks_exact(self.book.jobs().len())
+            .nth(case as usize)?;
+        first_from(row, from)
     }
 }
