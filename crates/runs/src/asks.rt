@@ -5,6 +5,7 @@ ghost use Rattle.book.specs.Plain.{checks};
 ghost use Rattle.walks.specs.Logs.{Has};
 ghost use Rattle.walks.specs.Sought.{Sought, LowestSought};
 
+use crate::log::Log;
 use book::keeping::Book;
 
 // Whether a set has a number.
@@ -15,17 +16,20 @@ fn has(set: u32, k: u32) -> bool
     (set >> k) % 2 == 1
 }
 
-// Whether check `c` is among the jobs `just` told and was not heard of.
-fn sought(book: &Book, just: u32, heard: u8, c: u8) -> bool
-    requires known { c < checks (held book.now) }
-    ensures { Decides result (Sought (held book.now) just heard c) }
-{
-    book.check_job(c).is_some_and(|job| has(just, job as u32) && !has(heard as u32, c as u32))
-}
+impl Log {
+    // Whether check `c` is among the jobs just told and was not heard of.
+    fn seeks(&self, book: &Book, c: u8) -> bool
+        requires known { c < checks (held book.now) }
+        ensures { Decides result (Sought (held book.now) self.now.just self.now.heard c) }
+    {
+        book.check_job(c).is_some_and(|job| has(self.just, job as u32)
+            && !has(self.heard as u32, c as u32))
+    }
 
-// The lowest check sought.
-pub(crate) fn lowest_sought(book: &Book, just: u32, heard: u8) -> Option<u8>
-    ensures { LowestSought (held book.now) just heard result }
-{
-    (0..book.checks()).find(|c| sought(book, just, heard, *c))
+    // The lowest check sought.
+    pub(crate) fn lowest_sought(&self, book: &Book) -> Option<u8>
+        ensures { LowestSought (held book.now) self.now.just self.now.heard result }
+    {
+        (0..book.checks()).find(|c| self.seeks(book, *c))
+    }
 }

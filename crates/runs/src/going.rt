@@ -8,7 +8,6 @@ ghost use Rattle.runs.specs.Recorded.{recorded};
 ghost use Rattle.runs.specs.Sheets.{plan, times};
 ghost use Rattle.runs.specs.Steps.{Walks, Steps, Answers, AskedOf, Closes, Ran, reported};
 
-use crate::asks::lowest_sought;
 use crate::log::Log;
 use crate::sheet::RunSheet;
 use crate::state::{Answered, Asking, Check, Closed, Finished, Run, Stepped, Walking};
@@ -34,7 +33,8 @@ impl<'a> Run<'a> {
     fn go_on(self) -> Answered<'a>
         ensures { Answers self.entry.sheet.now (recorded self.entry.log) result }
     {
-        match lowest_sought(&self.sheet.book, self.log.just, self.log.heard) {
+        let book = &self.sheet.book;
+        match self.log.lowest_sought(book) {
             None => Answered::Walks(Walking { run: self }),
             Some(check) => Answered::Asks(Asking { run: self, check }),
         }

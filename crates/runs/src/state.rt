@@ -41,7 +41,7 @@ pub enum Stepped<'a> {
     Ends(Finished<'a>),
 }
 
-// What a report gives: a run that asks for the next check, or one that walks on.
+// What a report gives: a run that asks for the next check, or one that walks on. Neither is a failure, so its names speak.
 pub enum Answered<'a> {
     Asks(Asking<'a>),
     Walks(Walking<'a>),
