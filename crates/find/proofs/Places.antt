@@ -1,10 +1,9 @@
 -- Reading and raising the places of a table.
-use Rattle.std.proofs.Common.{◌≡◌, ℕ, ◌+◌, ◌<◌, ◌≤◌, Bool, List, length, get_or, set, sum, take, ltb, sym, ap, ◌∙◌, subst, ⊎_elim, arith}
+use Rattle.std.proofs.Common.{◌≡◌, ℕ, ◌+◌, ◌<◌, ◌≤◌, List, length, get_or, set, sum, take, sym, ap, ◌∙◌, subst, arith}
 use Rattle.std.proofs.Math.ListN.{get_or-map}
-use Rattle.std.proofs.lemmas.Bool.{cases_lt, lt-ltb, le-ltb}
 use Rattle.std.proofs.lemmas.List.{map-set, get_or-take, length-take}
 use Rattle.rules.specs.Rules.{System, Rule, Sound, Kept, at, rule}
-use Rattle.rules.specs.Search.{Good, LeastAsked, Marked}
+use Rattle.rules.specs.Search.{Good, LeastAsked}
 use Rattle.rules.proofs.Steps.{stays, rises, grows}
 use Rattle.find.specs.declared.tables.Place.{Place}
 use Rattle.find.specs.Tables.{TableView, IsTable, table_of}
@@ -81,12 +80,3 @@ pub stays_kept : (m : System) (places : List Place) (t : TableView) → table_of
 stays_kept m places t view r x p k is asks e low =
     let here : x ≤ at t.minutes p = omega (arith, minute_at places t view p, low) in
     subst (Kept t.minutes) is (stays t.minutes k x asks (subst (λ q. x ≤ at t.minutes q) e here))
-
--- a mark for a number above 0
-pub marked_at : (b : Bool) (v : ℕ) → b ≡ ltb 0 v → Marked b v
-marked_at b v e =
-    subst (λ x. Marked x v) (sym e)
-    (⊎_elim
-    (λ (some : 0 < v). subst (λ x. Marked x v) (sym (lt-ltb 0 v some)) some)
-    (λ (none : v ≤ 0). subst (λ x. Marked x v) (sym (le-ltb 0 v none)) (omega arith))
-    (cases_lt 0 v))

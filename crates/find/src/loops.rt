@@ -18,8 +18,8 @@ pub(crate) struct Barred {
 }
 
 impl Barred {
-    // Walks from the place, by the rules that bar it, until a place comes again. The rules are written over the first of
-    // `walked`, an array since a search wants no memory; those of the loop are the answer.
+    // Walks from the place, by the rules that bar it, until a place comes again. The rules are written over the first
+    // of `walked`, an array since a search wants no memory; those of the loop are the answer.
     fn walk<'a, T: RuleSystem>(&self, system: &T, walked: &'a mut [usize; PLACES]) -> &'a [usize]
         requires { Stuck (T.meaning system.now) self.now.table.by self.now.place }
         ensures { Loop (T.meaning system.now) result.now }
@@ -27,17 +27,17 @@ impl Barred {
         let table = &self.table;
         let mut seen = [None; PLACES];
         let mut place = self.place;
-        let mut n = 0;
-        loop {
+        for n in 0..PLACES + 1 {
             if let Some(from) = seen[place] {
                 return &walked[from..n];
             }
             seen[place] = Some(n);
             let number = table.places[place].by;
             walked[n] = number;
-            n += 1;
             place = Rule::new(system, number).way(0).place;
         }
+        // A place has come again by then, since there are no more.
+        unreachable!()
     }
 
     // Writes the origins of a loop over the first of `out`, and says how many they are.
@@ -55,7 +55,8 @@ impl Barred {
 
 // Writes the origins of these rules over the first of `out`.
 fn write_origins<T: WithOrigins>(system: &T, rules: &[usize], out: &mut [Origin])
-    requires known { (i : ℕ) → i < length rules.now → slice_index rules.now i < length (T.meaning system.now).rules }
+    requires known { (i : ℕ) → i < length rules.now →
+        slice_index rules.now i < length (T.meaning system.now).rules }
     requires wide { length rules.now ≤ length out.old }
     ensures { out.new ≡ map (origin_of (T.origins system.now)) rules.now ++ drop (length rules.now) out.old }
 {
@@ -65,8 +66,8 @@ fn write_origins<T: WithOrigins>(system: &T, rules: &[usize], out: &mut [Origin]
     }
 }
 
-// Writes the least table that keeps every rule over the first of `minutes`; or, where there is none, the origins of a loop of
-// rules over the first of `out`.
+// Writes the least table that keeps every rule over the first of `minutes`; or, where there is none, the origins of a
+// loop of rules over the first of `out`.
 pub fn find_or_loop<T: WithOrigins>(
     t: &T,
     minutes: &mut [i32],

@@ -8,8 +8,8 @@ use crate::marks::Marks;
 use crate::tables::Table;
 use rules::system::RuleSystem;
 
-// Goes through the rules until the table keeps them all, or the rules that raised it show that none does: then some places
-// bar each other.
+// Goes through the rules until the table keeps them all, or the rules that raised it show that none does: then some
+// places bar each other.
 pub(crate) fn search<T: RuleSystem>(system: &T) -> Result<Table, Barred>
     ensures { MatchResult result
         (λ t. Good (T.meaning system.now) 0 t.minutes t.by × AllKept (T.meaning system.now) t.minutes)

@@ -43,12 +43,14 @@ impl Table {
         }
     }
 
-    // Raises the place that rule `number` holds back, where the table does not keep the rule, and records the rule for it.
+    // Raises the place that rule `number` holds back, where the table does not keep the rule, and records the rule for
+    // it.
     fn raise<T: RuleSystem>(&mut self, system: &T, number: usize) -> bool
         requires known { number < length (T.meaning system.now).rules }
         requires good { Good (T.meaning system.now) number self.old.minutes self.old.by }
         ensures good { Good (T.meaning system.now) (number + 1) self.new.minutes self.new.by }
-        ensures grown { Grown (Kept self.old.minutes (rule (T.meaning system.now) number)) self.old.minutes self.new.minutes result }
+        ensures grown { Grown (Kept self.old.minutes (rule (T.meaning system.now) number))
+            self.old.minutes self.new.minutes result }
     {
         let rule = Rule::new(system, number);
         let minute = rule.least_asked(self);
@@ -63,8 +65,10 @@ impl Table {
     // Goes through the rules once, raising where it has to.
     pub(crate) fn round<T: RuleSystem>(&mut self, system: &T) -> bool
         requires { Good (T.meaning system.now) 0 self.old.minutes self.old.by }
-        ensures good { Good (T.meaning system.now) (length (T.meaning system.now).rules) self.new.minutes self.new.by }
-        ensures grown { Grown (AllKept (T.meaning system.now) self.old.minutes) self.old.minutes self.new.minutes result }
+        ensures good { Good (T.meaning system.now) (length (T.meaning system.now).rules)
+            self.new.minutes self.new.by }
+        ensures grown { Grown (AllKept (T.meaning system.now) self.old.minutes)
+            self.old.minutes self.new.minutes result }
     {
         let mut rose = false;
         for number in 0..system.rules() {

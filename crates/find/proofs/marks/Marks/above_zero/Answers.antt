@@ -1,18 +1,25 @@
-use Rattle.std.proofs.Common.{◌≡◌, length, get_or, false, ltb, sym, subst, rules, arith}
+use Rattle.std.proofs.Common.{◌≡◌, ℕ, ◌+◌, ◌<◌, false, length, get_or, set, ltb, ◌∙◌, subst, arith}
+use Rattle.std.proofs.lemmas.List.{length-set}
+use Rattle.rules.specs.Rules.{at}
 use Rattle.rules.specs.Search.{Marked}
-use Rattle.rules.proofs.Peeling.{marked_all}
-use Rattle.find.proofs.Places.{no_place, minute_at, is_table, marked_at}
+use Rattle.rules.proofs.Peeling.{marked_more, marked_all}
+use Rattle.find.proofs.Places.{minute_at, is_table}
 use Rattle.find.proofs.marks.Marks.above_zero.Goals as goal
+
+pub loop-p-preserved : goal.loop-p-preserved
+loop-p-preserved c =
+    let minutes = c.args.table.now.minutes in
+    let inside = c.loop-p.inside in
+    let p = c.loop-p.p in
+    let (long, so_far) = c.loop-p.invariant in (
+      length-set inside p _ ∙ long,
+      subst (λ v. (k : ℕ) → k < p + 1 → Marked (get_or (set inside p (ltb 0 v)) k false) (at minutes k))
+          (minute_at c.table.inside.places c.args.table.now c.table.view_is p) (marked_more minutes inside p (omega arith) so_far),
+    )
 
 pub returns : goal.returns
 returns c =
-    let places = c.table.inside.places in
     let t = c.args.table.now in
-    let marks = c.map.ensures.items in
-    let alike : length t.minutes ≡ length c.map.result = omega (arith, (is_table places t c.table.view_is c.table.invariant).sized, marks.long) in
-    marked_all t.minutes c.map.result alike
-    (λ k h.
-    let (f, f', call) = marks.at k no_place false (omega (arith, marks.long, h)) in
-    let is : get_or c.map.result k false ≡ ltb 0 (get_or places k no_place).minute = search rules in
-    subst (Marked (get_or c.map.result k false)) (sym (minute_at places t c.table.view_is k))
-    (marked_at (get_or c.map.result k false) (get_or places k no_place).minute is))
+    let sized = (is_table c.table.inside.places t c.table.view_is c.table.invariant).sized in
+    let alike : length t.minutes ≡ length c.loop-p.inside = omega arith in
+    marked_all t.minutes c.loop-p.inside alike (λ k h. c.loop-p.invariant.1 k (omega arith))
