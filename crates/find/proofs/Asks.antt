@@ -33,7 +33,10 @@ least_on x y xs m l = record { least = below; reached = ⊎_elim here there (pla
     there (i, h, e) = (suc (suc i), omega arith, e)
 
 fold_least : (x : ℕ) (xs : List ℕ) → IsLeast (x ∷ xs) (fold min x xs)
-fold_least x [] = record { least = λ i h. let e : i ≡ 0 = omega arith in subst (λ j. x ≤ get_or (x ∷ []) j 0) (sym e) (omega arith); reached = (0, omega arith, refl) }
+fold_least x [] = record {
+  least = λ i h. let e : i ≡ 0 = omega arith in subst (λ j. x ≤ get_or (x ∷ []) j 0) (sym e) (omega arith);
+  reached = (0, omega arith, refl);
+}
 fold_least x (y ∷ xs) = least_on x y xs (fold min (min x y) xs) (fold_least (min x y) xs)
 
 reduce_least : (xs : List ℕ) (m : ℕ) → reduce min xs ≡ Some m → IsLeast xs m
