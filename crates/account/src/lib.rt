@@ -11,6 +11,7 @@ use std::fmt;
 use verdicts::{DynamicAnswer, StrongAnswer, WeakAnswer};
 
 // A reply, printed as its line.
+#[derive(Clone, Copy)]
 struct Line(Reply);
 
 impl fmt::Display for Line {

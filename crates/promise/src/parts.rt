@@ -13,7 +13,7 @@ pub enum Request {
 }
 
 // What a request is answered.
-#[derive(Clone, Copy)]
+#[derive(Clone, Copy, Debug, PartialEq, Eq)]
 pub enum Reply {
     Book(Answer),
     Strong(Result<StrongAnswer, Refusal>),

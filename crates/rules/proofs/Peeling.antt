@@ -116,6 +116,3 @@ marked_all table inside alike so_far k =
     (λ (lt : k < length inside). so_far k lt)
     (λ (past : length inside ≤ k). subst (λ b. Marked b (at table k)) (sym (get_or_past inside k false past)) (get_or_past table k 0 (omega arith)))
     (cases_lt k (length inside))
-
-pub out_all : (inside : List Bool) → ((k : ℕ) → k < length inside → Out inside k) → (k : ℕ) → Out inside k
-out_all inside so_far k = ⊎_elim (λ lt. so_far k lt) (λ past. get_or_past inside k false past) (cases_lt k (length inside))

@@ -114,8 +114,3 @@ pub record Barred (m : System) (by : List ℕ) (inside : List Bool) : Type 0 whe
   pub traced : (p : ℕ) → In inside p → Traced m heights stamps (at by p) p
   pub closed : Closed m by inside
   pub none : (p : ℕ) → In inside p → (other : List ℕ) → ((q : ℕ) → In inside q → Kept other (rule m (at by q))) → ⊥
-
--- what the whole search comes to: the table keeps every rule and is below every other that does, or marked places bar each other
-abbrev pub Searched : System → List ℕ → List ℕ → List Bool → Option ℕ → Type 0
-Searched m table by inside None = Good m 0 table by × AllKept m table
-Searched m table by inside (Some p) = Barred m by inside × In inside p
