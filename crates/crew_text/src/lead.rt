@@ -50,29 +50,16 @@ fn put_text(
     }
 }
 
-// Puts the run of a plan text whose checks have the outcomes that the words say.
-fn put_words(
-    page: &mut Page,
-    heap: Global,
-    text: &[u8],
-    words: &[String],
-) -> Result<(), AllocError> {
-    match outcomes(heap, words) {
-        Ok(outcomes) => put_text(page, heap, text, outcomes.as_slice()),
-        Err(Unsaid::NeitherYesNorNo) => page.push(b"an outcome is neither yes nor no\n"),
-        Err(Unsaid::NoMemory(e)) => Err(e),
-    }
-}
-
 // What a crew reads that is led through the run of a plan text, its checks having these outcomes in the order in which they are asked.
 pub fn lead(heap: Global, text: &[u8], words: &[String]) -> Result<Vec<u8>, AllocError>
     ensures { IfOk result (λ v. 4 < length words.now → v.items ≡ codes "too many outcomes: a plan has at most 4 checks\n") }
 {
     let mut page = Page::new(heap);
-    if words.len() > 4 {
-        page.push(b"too many outcomes: a plan has at most 4 checks\n")?;
-    } else {
-        put_words(&mut page, heap, text, words)?;
+    match outcomes(heap, words) {
+        Ok(outcomes) => put_text(&mut page, heap, text, outcomes.as_slice())?,
+        Err(Unsaid::TooMany) => page.push(b"too many outcomes: a plan has at most 4 checks\n")?,
+        Err(Unsaid::NeitherYesNorNo) => page.push(b"an outcome is neither yes nor no\n")?,
+        Err(Unsaid::NoMemory(e)) => return Err(e),
     }
     Ok(page.into_bytes())
 }

@@ -1,4 +1,4 @@
-// The lines that a crew reads, each put at the end of a page.
+// The lines that a crew reads, each put at the end of a page, which is a parameter as the formatter of a `fmt` is.
 use format::names::{Names, Plan};
 use page::Page;
 use runs::ending::Walked;

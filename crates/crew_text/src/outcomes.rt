@@ -1,8 +1,11 @@
 // The outcomes of checks, as words.
+ghost use Rattle.std.specs.Prelude.{◌≡◌, ◌<◌, length, Err};
+
 use std::alloc::{AllocError, Global};
 
-// Why words say no outcomes: a word is neither yes nor no, or there is no memory for a list.
+// Why words say no outcomes.
 pub(crate) enum Unsaid {
+    TooMany,
     NeitherYesNorNo,
     NoMemory(AllocError),
 }
@@ -22,8 +25,13 @@ fn outcome(word: &str) -> Result<bool, Unsaid> {
     }
 }
 
-// The outcomes that words say.
-pub(crate) fn outcomes(heap: Global, words: &[String]) -> Result<Vec<bool>, Unsaid> {
+// The outcomes that words say, one for each check that a plan can have.
+pub(crate) fn outcomes(heap: Global, words: &[String]) -> Result<Vec<bool>, Unsaid>
+    ensures { 4 < length words.now → result ≡ Err Unsaid.TooMany }
+{
+    if words.len() > 4 {
+        return Err(Unsaid::TooMany);
+    }
     words
         .iter()
         .map(|word| outcome(word.as_str()))

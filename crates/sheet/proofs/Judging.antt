@@ -1,5 +1,5 @@
 -- The three verdicts together.
-use Rattle.std.proofs.Common.{◌≡◌, ℕ, zero, suc, ◌*◌, ◌≤◌, Bool, true, false, List, [], ◌∷◌, map, length, take, drop, ℤ, Ok, Err, is_ok, Result}
+use Rattle.std.proofs.Common.{◌≡◌, ℕ, zero, suc, ◌*◌, ◌≤◌, true, List, [], ◌∷◌, map, length, take, drop, ℤ, Ok, Err, is_ok, Result}
 use Rattle.std.proofs.Common.{refl, ap, ◌∙◌, suc-mul, mul-le-mul, arith, length-append}
 use lib.ListN.{length-map}
 use Rattle.std.proofs.lemmas.List.{take_at}
@@ -15,15 +15,17 @@ use Rattle.grades.specs.Systems.{each_below, shown, listed, weak_origins, weak_s
 use Rattle.grades.proofs.Limits.{few_cases}
 use Rattle.verdicts.specs.declared.answers.StrongAnswer.{StrongAnswer}
 use Rattle.verdicts.specs.declared.answers.WeakAnswer.{WeakAnswer}
-use Rattle.verdicts.specs.declared.answers.WeakAnswer.TheVariants.{Yes, No}
+use Rattle.verdicts.specs.declared.answers.WeakAnswer.TheVariants as weak
+use Rattle.verdicts.specs.declared.answers.StrongAnswer.TheVariants as strong
+use Rattle.verdicts.specs.declared.answers.DynamicAnswer.TheVariants as dynamic
 use Rattle.verdicts.specs.declared.answers.DynamicAnswer.{DynamicAnswer}
-use Rattle.verdicts.specs.Verdicts.{size, ListsEarliest, LowestFailing, StrongAnswered, WeakSays, WeakAnswered, DynamicAnswered}
+use Rattle.verdicts.specs.Verdicts.{size, ListsEarliest, LowestFailing, StrongSays, StrongAnswered, WeakSays, WeakAnswered, DynamicSays, DynamicAnswered}
 use Rattle.sheet.specs.declared.grade.Grade.{Grade}
 use Rattle.sheet.specs.declared.grade.Grade.TheVariants.{Strong, Dynamic, Weak}
 use Rattle.sheet.specs.declared.verdict.Verdicts.{Verdicts}
-use Rattle.sheet.specs.Sheet.{is_yes}
+use Rattle.sheet.specs.Sheet.{is_strong, is_dynamic, is_weak}
 use Rattle.sheet.specs.Printed.{good, Verdict}
-use Rattle.sheet.specs.Judged.{Holds, Asked, Looping, Shown, Judged}
+use Rattle.sheet.specs.Judged.{Holds, Looping, Shown, Judged}
 
 -- the minutes of a plan fit a list of 320
 pub size_fits : (b : Plain) → Sound b → size b ≤ 320
@@ -67,14 +69,19 @@ pub filled : (b : Plain) (g : Grade) (before after : List ℤ) → ListsEarliest
 filled b g before after h =
     (h.0, h.1, ap (take (size b)) h.2 ∙ take_at (listed b h.0) (drop (size b) before) (size b) (listed_length b h.0))
 
-verdict_of : (b : Plain) (g : Grade) (before after : List ℤ) (r : Bool) → Asked b g before after r → Verdict b g r
-verdict_of b g before after true h = (h.0, h.1.good)
-verdict_of b g before after false h = h.0
+strong_verdict : (b : Plain) (before after : List ℤ) (loops loops_after : List Origin) (s : StrongAnswer) → StrongSays b before after loops loops_after s
+    → Verdict b Strong (is_strong s)
+strong_verdict b before after loops loops_after strong.Yes h = (h.0.0, h.0.1.good)
+strong_verdict b before after loops loops_after (strong.No n) h = h.0
+
+dynamic_verdict : (b : Plain) (before after : List ℤ) (d : DynamicAnswer) → DynamicSays b before after d → Verdict b Dynamic (is_dynamic d)
+dynamic_verdict b before after dynamic.Yes h = (h.0, h.1.good)
+dynamic_verdict b before after dynamic.No h = h.0
 
 weak_verdict : (b : Plain) (before after : List ℤ) (loops loops_after : List Origin) (w : WeakAnswer) → WeakSays b before after loops loops_after w
-    → Verdict b Weak (is_yes w)
-weak_verdict b before after loops loops_after Yes h = (h.0.0, h.0.1.good)
-weak_verdict b before after loops loops_after (No s n) h = h.0
+    → Verdict b Weak (is_weak w)
+weak_verdict b before after loops loops_after weak.Yes h = (h.0.0, h.0.1.good)
+weak_verdict b before after loops loops_after (weak.No s n) h = h.0
 
 -- the origins that a loop writes
 looping : (b : Plain) (s n : ℕ) (before after : List Origin) → LowestFailing b s → Looped (weak_system b s) (weak_origins b s) before after n
@@ -84,20 +91,23 @@ looping b s n before after low h =
     (low, h.0, h.1, h.2, ap (take n) h.3 ∙ take_at (map (origin_of (weak_origins b s)) h.0) (drop n before) n long)
 
 -- what the minutes and the origins are in the end
-shown_of : (b : Plain) (loops origins : List Origin) (strong dynamic : Bool) (weak : WeakAnswer) (m₀ m₁ m₂ m₃ : List ℤ)
-    → WeakSays b m₀ m₁ loops origins weak → Asked b Dynamic m₁ m₂ dynamic → Asked b Strong m₂ m₃ strong → Shown b m₃ origins strong dynamic weak
-shown_of b loops origins true dynamic weak m₀ m₁ m₂ m₃ w d g = g
-shown_of b loops origins false true weak m₀ m₁ m₂ m₃ w d g = (d.0, d.1, ap (take (size b)) g.1 ∙ d.2)
-shown_of b loops origins false false Yes m₀ m₁ m₂ m₃ w d g =
-    let h = filled b Weak m₀ m₁ w.0 in
-    (h.0, h.1, ap (take (size b)) (g.1 ∙ d.1) ∙ h.2)
-shown_of b loops origins false false (No s n) m₀ m₁ m₂ m₃ w d g = looping b s n loops origins w.1 w.2
+shown_of : (b : Plain) (loops origins spare spare_after : List Origin) (s : StrongAnswer) (d : DynamicAnswer) (w : WeakAnswer) (m₀ m₁ m₂ m₃ : List ℤ)
+    → WeakSays b m₀ m₁ loops origins w → DynamicSays b m₁ m₂ d → StrongSays b m₂ m₃ spare spare_after s → Shown b m₃ origins (is_strong s) (is_dynamic d) w
+shown_of b loops origins spare spare_after strong.Yes d w m₀ m₁ m₂ m₃ p q r = filled b Strong m₂ m₃ r.0
+shown_of b loops origins spare spare_after (strong.No n) dynamic.Yes w m₀ m₁ m₂ m₃ p q r =
+    let h = filled b Dynamic m₁ m₂ q in
+    (h.0, h.1, ap (take (size b)) r.2 ∙ h.2)
+shown_of b loops origins spare spare_after (strong.No n) dynamic.No weak.Yes m₀ m₁ m₂ m₃ p q r =
+    let h = filled b Weak m₀ m₁ p.0 in
+    (h.0, h.1, ap (take (size b)) (r.2 ∙ q.1) ∙ h.2)
+shown_of b loops origins spare spare_after (strong.No n) dynamic.No (weak.No case length) m₀ m₁ m₂ m₃ p q r = looping b case length loops origins p.1 p.2
 
-pub judged : (b : Plain) (loops origins : List Origin) (v : Verdicts) (m₀ m₁ m₂ m₃ : List ℤ) →
-    WeakSays b m₀ m₁ loops origins v.weak → Asked b Dynamic m₁ m₂ v.dynamic → Asked b Strong m₂ m₃ v.strong → Judged b m₃ origins v
-judged b loops origins v m₀ m₁ m₂ m₃ w d g = record {
-  strong_is = verdict_of b Strong m₂ m₃ v.strong g;
-  dynamic_is = verdict_of b Dynamic m₁ m₂ v.dynamic d;
-  weak_is = weak_verdict b m₀ m₁ loops origins v.weak w;
-  shown = shown_of b loops origins v.strong v.dynamic v.weak m₀ m₁ m₂ m₃ w d g;
+-- the three answers, one after another
+pub judged : (b : Plain) (loops origins spare spare_after : List Origin) (v : Verdicts) (m₀ m₁ m₂ m₃ : List ℤ) →
+    WeakSays b m₀ m₁ loops origins v.weak → DynamicSays b m₁ m₂ v.dynamic → StrongSays b m₂ m₃ spare spare_after v.strong → Judged b m₃ origins v
+judged b loops origins spare spare_after v m₀ m₁ m₂ m₃ p q r = record {
+  strong_is = strong_verdict b m₂ m₃ spare spare_after v.strong r;
+  dynamic_is = dynamic_verdict b m₁ m₂ v.dynamic q;
+  weak_is = weak_verdict b m₀ m₁ loops origins v.weak p;
+  shown = shown_of b loops origins spare spare_after v.strong v.dynamic v.weak m₀ m₁ m₂ m₃ p q r;
 }

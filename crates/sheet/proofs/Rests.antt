@@ -16,7 +16,7 @@ use Rattle.verdicts.specs.declared.answers.WeakAnswer.TheVariants.{No}
 use Rattle.verdicts.specs.Verdicts.{size}
 use Rattle.sheet.specs.declared.grade.Grade.{Grade}
 use Rattle.sheet.specs.declared.verdict.Verdicts.{Verdicts}
-use Rattle.sheet.specs.Sheet.{verdict_lines, strongest, table_lines, loop_lines, is_yes, Within}
+use Rattle.sheet.specs.Sheet.{verdict_lines, strongest, table_lines, loop_lines, is_strong, is_dynamic, is_weak, Within}
 use Rattle.sheet.specs.Printed.{PlanSheet}
 use Rattle.sheet.specs.Judged.{Holds, Looping, Judged, RestPut, SheetPut, TextPut}
 use Rattle.sheet.proofs.Fits.{ShortNames, verdicts_fit, loop_fits}
@@ -25,7 +25,7 @@ use Rattle.sheet.proofs.Rows.{joins}
 
 -- a table follows, of the strongest grade with a yes
 pub table_rest : (b : Plain) (name : ℕ → List ℕ) (v : Verdicts) (g : Grade) (minutes : List ℤ) (before after : List ℕ) →
-    strongest v.strong v.dynamic (is_yes v.weak) ≡ Some g → Holds b g minutes →
+    strongest (is_strong v.strong) (is_dynamic v.dynamic) (is_weak v.weak) ≡ Some g → Holds b g minutes →
     after ≡ before ++ table_lines g name (length b.jobs) (take (size b) minutes) (cases b) →
     length (table_lines g name (length b.jobs) (take (size b) minutes) (cases b)) ≤ 7000 → RestPut b name v before after
 table_rest b name v g minutes before after best h put short = (
@@ -37,7 +37,7 @@ table_rest b name v g minutes before after best h put short = (
 
 -- with no yes, a loop
 pub looping_of : (b : Plain) (v : Verdicts) (minutes : List ℤ) (origins : List Origin) (s n : ℕ) → Judged b minutes origins v →
-    v.strong ≡ false → v.dynamic ≡ false → v.weak ≡ No s n → Looping b origins s n
+    is_strong v.strong ≡ false → is_dynamic v.dynamic ≡ false → v.weak ≡ No s n → Looping b origins s n
 looping_of b v minutes origins s n j p q r = rw (p, q, r) at j.shown
 
 pub looping_few : (b : Plain) (origins : List Origin) (s n : ℕ) → Sound b → Looping b origins s n → n ≤ 20
@@ -50,7 +50,7 @@ looping_known b origins s n h =
     (rw is (λ i l. loop_known b s rs loop i (omega (arith, l, length-map rs (origin_of (weak_origins b s))))))
 
 pub loop_rest : (b : Plain) (name : ℕ → List ℕ) (v : Verdicts) (origins : List Origin) (s n : ℕ) (before after : List ℕ) → Sound b → ShortNames name →
-    v.strong ≡ false → v.dynamic ≡ false → v.weak ≡ No s n → Looping b origins s n →
+    is_strong v.strong ≡ false → is_dynamic v.dynamic ≡ false → v.weak ≡ No s n → Looping b origins s n →
     after ≡ before ++ loop_lines b name s (take n origins) → RestPut b name v before after
 loop_rest b name v origins s n before after sound short p q r h put =
     let (low, rs, loop, long, is) = h in (
@@ -63,15 +63,15 @@ loop_rest b name v origins s n before after sound short p q r h put =
 
 -- the verdicts, then the rest
 pub sheet_put : (b : Plain) (name : ℕ → List ℕ) (minutes : List ℤ) (origins : List Origin) (v : Verdicts) (page one two : List ℕ) → Judged b minutes origins v
-    → one ≡ page ++ verdict_lines v.strong v.dynamic (is_yes v.weak) → RestPut b name v one two → SheetPut b name page two
+    → one ≡ page ++ verdict_lines (is_strong v.strong) (is_dynamic v.dynamic) (is_weak v.weak) → RestPut b name v one two → SheetPut b name page two
 sheet_put b name minutes origins v page one two j p r =
-    let verdicts = verdict_lines v.strong v.dynamic (is_yes v.weak) in
+    let verdicts = verdict_lines (is_strong v.strong) (is_dynamic v.dynamic) (is_weak v.weak) in
     let (rest, is, short, put) = r in (
       verdicts ++ rest,
       record {
-        strong = v.strong;
-        dynamic = v.dynamic;
-        weak = is_yes v.weak;
+        strong = is_strong v.strong;
+        dynamic = is_dynamic v.dynamic;
+        weak = is_weak v.weak;
         strong_is = j.strong_is;
         dynamic_is = j.dynamic_is;
         weak_is = j.weak_is;
@@ -79,7 +79,7 @@ sheet_put b name minutes origins v page one two j p r =
         rest_is = is;
         lines = refl;
       },
-      omega (arith, length-append verdicts rest, verdicts_fit v.strong v.dynamic (is_yes v.weak), short),
+      omega (arith, length-append verdicts rest, verdicts_fit (is_strong v.strong) (is_dynamic v.dynamic) (is_weak v.weak), short),
       joins page verdicts rest one two p put,
     )
 

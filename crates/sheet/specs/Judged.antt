@@ -8,21 +8,16 @@ use Rattle.grades.specs.Grades.{Minutes, Earliest}
 use Rattle.grades.specs.Systems.{weak_system, weak_origins, listed}
 use Rattle.verdicts.specs.declared.answers.WeakAnswer.{WeakAnswer}
 use Rattle.verdicts.specs.declared.answers.WeakAnswer.TheVariants.{Yes, No}
-use Rattle.verdicts.specs.Verdicts.{size, NoStrategy, LowestFailing}
+use Rattle.verdicts.specs.Verdicts.{size, LowestFailing}
 use Rattle.sheet.specs.declared.grade.Grade.{Grade}
 use Rattle.sheet.specs.declared.grade.Grade.TheVariants.{Strong, Dynamic, Weak}
 use Rattle.sheet.specs.declared.verdict.Verdicts.{Verdicts}
-use Rattle.sheet.specs.Sheet.{strongest, is_yes}
+use Rattle.sheet.specs.Sheet.{strongest, is_strong, is_dynamic, is_weak}
 use Rattle.sheet.specs.Printed.{good, Verdict, Rest, PlanSheet, SheetOf}
 
 -- the minutes begin with those of the earliest strategy of a grade
 abbrev pub Holds : Plain → Grade → List ℤ → Type 0
 Holds b g minutes = (minute : Minutes) × Earliest b (good b g) minute × (take (size b) minutes ≡ listed b minute)
-
--- one grade was asked for: on a no the minutes are as before
-abbrev pub Asked : Plain → Grade → List ℤ → List ℤ → Bool → Type 0
-Asked b g before after true = Holds b g after
-Asked b g before after false = NoStrategy (good b g) × (after ≡ before)
 
 -- the origins begin with those of a loop of n rules of case s, the lowest that fails
 abbrev pub Looping : Plain → List Origin → ℕ → ℕ → Type 0
@@ -37,15 +32,16 @@ Shown b minutes origins false false Yes = Holds b Weak minutes
 Shown b minutes origins false false (No case length) = Looping b origins case length
 
 pub record Judged (b : Plain) (minutes : List ℤ) (origins : List Origin) (v : Verdicts) : Type 0 where
-  pub strong_is : Verdict b Strong v.strong
-  pub dynamic_is : Verdict b Dynamic v.dynamic
-  pub weak_is : Verdict b Weak (is_yes v.weak)
-  pub shown : Shown b minutes origins v.strong v.dynamic v.weak
+  pub strong_is : Verdict b Strong (is_strong v.strong)
+  pub dynamic_is : Verdict b Dynamic (is_dynamic v.dynamic)
+  pub weak_is : Verdict b Weak (is_weak v.weak)
+  pub shown : Shown b minutes origins (is_strong v.strong) (is_dynamic v.dynamic) v.weak
 
 -- what follows the verdicts was put at the end of a page
 abbrev pub RestPut : Plain → (ℕ → List ℕ) → Verdicts → List ℕ → List ℕ → Type 0
 RestPut b name v before after =
-    (rest : List ℕ) × Rest b name (strongest v.strong v.dynamic (is_yes v.weak)) rest × (length rest ≤ 7000) × (after ≡ before ++ rest)
+    (rest : List ℕ) × Rest b name (strongest (is_strong v.strong) (is_dynamic v.dynamic) (is_weak v.weak)) rest
+    × (length rest ≤ 7000) × (after ≡ before ++ rest)
 
 -- the sheet of a plan, no longer than 8,192 bytes, was put at the end of a page
 abbrev pub SheetPut : Plain → (ℕ → List ℕ) → List ℕ → List ℕ → Type 0

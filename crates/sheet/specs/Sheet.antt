@@ -8,8 +8,12 @@ use Rattle.format.specs.declared.parts.Fault.{Fault}
 use Rattle.format.specs.declared.parts.Reason.{Reason}
 use Rattle.format.specs.declared.parts.Reason.TheVariants.{File, Book}
 use Rattle.format.specs.Faults.{reason_number}
+use Rattle.verdicts.specs.declared.answers.StrongAnswer.{StrongAnswer}
+use Rattle.verdicts.specs.declared.answers.StrongAnswer.TheVariants as strong
+use Rattle.verdicts.specs.declared.answers.DynamicAnswer.{DynamicAnswer}
+use Rattle.verdicts.specs.declared.answers.DynamicAnswer.TheVariants as dynamic
 use Rattle.verdicts.specs.declared.answers.WeakAnswer.{WeakAnswer}
-use Rattle.verdicts.specs.declared.answers.WeakAnswer.TheVariants.{Yes, No}
+use Rattle.verdicts.specs.declared.answers.WeakAnswer.TheVariants as weak
 use Rattle.sheet.specs.declared.grade.Grade.{Grade}
 use Rattle.sheet.specs.declared.grade.Grade.TheVariants.{Strong, Dynamic, Weak}
 
@@ -102,10 +106,18 @@ strongest false false false = None
 abbrev pub verdict_lines : Bool → Bool → Bool → List ℕ
 verdict_lines strong dynamic weak = (verdict_line Strong strong ++ verdict_line Dynamic dynamic) ++ verdict_line Weak weak
 
--- whether a plan is weak
-abbrev pub is_yes : WeakAnswer → Bool
-is_yes Yes = true
-is_yes (No case length) = false
+-- whether a plan is strong, dynamic and weak, by the answers
+abbrev pub is_strong : StrongAnswer → Bool
+is_strong strong.Yes = true
+is_strong (strong.No length) = false
+
+abbrev pub is_dynamic : DynamicAnswer → Bool
+is_dynamic dynamic.Yes = true
+is_dynamic dynamic.No = false
+
+abbrev pub is_weak : WeakAnswer → Bool
+is_weak weak.Yes = true
+is_weak (weak.No case length) = false
 
 -- an origin names a bound, jobs and a check of the book
 abbrev pub Within : Plain → Origin → Type 0

@@ -12,7 +12,7 @@ use format::names::Plan;
 use page::Page;
 use rules::parts::Origin;
 use std::alloc::AllocError;
-use verdicts::WeakAnswer;
+use verdicts::{DynamicAnswer, StrongAnswer, WeakAnswer};
 
 // Puts what follows the verdicts: the table of the strongest grade with a yes, or the failing case with its loop.
 fn put_rest(
@@ -26,8 +26,14 @@ fn put_rest(
     ensures { OnOk result (RestPut (held plan.entry.book.now) (name plan.entry.names) said page.old page.new) }
 {
     match said {
-        Verdicts { strong: true, .. } => put_table(page, plan, Grade::Strong, minutes),
-        Verdicts { dynamic: true, .. } => put_table(page, plan, Grade::Dynamic, minutes),
+        Verdicts {
+            strong: StrongAnswer::Yes,
+            ..
+        } => put_table(page, plan, Grade::Strong, minutes),
+        Verdicts {
+            dynamic: DynamicAnswer::Yes,
+            ..
+        } => put_table(page, plan, Grade::Dynamic, minutes),
         Verdicts {
             weak: WeakAnswer::Yes,
             ..
