@@ -1,10 +1,12 @@
 -- The plans of the worked examples, and the calls that write them down.
-use Rattle.std.specs.Prelude.{◌≡◌, ℕ, List, [], ◌∷◌, map, ℤ, pos, Some, None, Ok, Err, Result, slice_index, slice_index_or}
+use Rattle.std.specs.Prelude.{◌≡◌, ℕ, List, [], ◌∷◌, map, ℤ, pos, Some, None, Ok, Err, slice_index, slice_index_or}
 use Rattle.book.specs.declared.parts.Label.{Label}
 use Rattle.book.specs.declared.parts.Kind.TheVariants.{Least, Most}
 use Rattle.book.specs.declared.parts.Bound.{Bound}
+use Rattle.book.specs.declared.parts.Call.{Call}
+use Rattle.book.specs.declared.parts.Call.TheVariants.{AddJob, AddCheck, AddBound}
 use Rattle.book.specs.declared.parts.Refusal.{Refusal}
-use Rattle.book.specs.Plain.{Plain, Outcome, number, empty_label, no_job, add_check, add_job, add_bound}
+use Rattle.book.specs.Plain.{Plain, Outcome, number, empty_label, no_job}
 use Rattle.grades.specs.Grades.{Minutes}
 
 -- a label by the checks that it wants yes and those that it wants no, check k counted as 2 to the k
@@ -51,33 +53,14 @@ plan within more = record {
 abbrev pub wet_hole : Plain
 wet_hole = plan (pos 20) []
 
--- calls that add something, fed to a book one after another, and what they answer
-pub data Call : Type 0 where
-  Check : Label → Call
-  Work : Label → Call
-  Between : Bound → Call
-
-abbrev pub outcome : Plain → Call → Outcome ℕ
-outcome b (Check l) = add_check b l
-outcome b (Work l) = add_job b l
-outcome b (Between l) = add_bound b l
-
-abbrev pub fed : Plain → List Call → Plain
-fed b [] = b
-fed b (c ∷ cs) = fed (outcome b c).after cs
-
-abbrev pub answers : Plain → List Call → List (Result ℕ Refusal)
-answers b [] = []
-answers b (c ∷ cs) = (outcome b c).answer ∷ answers (outcome b c).after cs
-
 -- the calls that write a plan down: four jobs, the first of them a check, and the bounds
 abbrev pub calls : ℤ → List Bound → List Call
 calls within more =
-    Check empty_label
-    ∷ Work (label 1 0)
-    ∷ Work empty_label
-    ∷ Work (label 0 1)
-    ∷ map Between (plan within more).bounds
+    AddCheck empty_label
+    ∷ AddJob (label 1 0)
+    ∷ AddJob empty_label
+    ∷ AddJob (label 0 1)
+    ∷ map AddBound (plan within more).bounds
 
 -- a call is taken and answers a; or it is refused with a number, and the book is as before
 abbrev pub Taken : {A : Type 0} → Outcome A → A → Type 0

@@ -1,5 +1,7 @@
 -- The worked examples, each a statement of the definitions.
-use Rattle.std.specs.Prelude.{◌≡◌, ℕ, ◌+◌, ◌^◌, Bool, true, false, ◌⊎◌, List, [], ◌∷◌, map, ℤ, pos, negsuc, Some, Ok, Option, count_ones, slice_get}
+use Rattle.std.specs.Prelude.{◌≡◌, ℕ, ◌+◌, ◌^◌, Bool, true, false, ◌⊎◌, List, [], ◌∷◌, ◌++◌, map, ℤ, pos, negsuc, Some, Ok, Option, count_ones, slice_get}
+use Rattle.book.specs.declared.parts.Taken.TheVariants.{NewJob, NewBound}
+use Rattle.book.specs.Fed.{fed, answers}
 use Rattle.book.specs.Plain.{Plain, cases, new_book, add_check, add_job, add_bound, withdraw}
 use Rattle.rules.specs.declared.parts.Origin.{Origin}
 use Rattle.rules.specs.declared.parts.Origin.TheVariants.{Bound}
@@ -11,7 +13,7 @@ use Rattle.walks.specs.declared.parts.Event.{Event}
 use Rattle.walks.specs.declared.parts.Event.TheVariants.{Told, Reported}
 use Rattle.walks.specs.Logs.{Lawful, Ended, all_told, last_minute}
 use Rattle.examples.specs.Plans.{label, least, most, start, wet, pump, grout, seal}
-use Rattle.examples.specs.Plans.{plan, wet_hole, calls, fed, answers, Taken, Refused, written, timetable}
+use Rattle.examples.specs.Plans.{plan, wet_hole, calls, Taken, Refused, written, timetable}
 
 -- no strategy of a grade
 abbrev pub Without : (Minutes → Type 0) → Type 0
@@ -34,8 +36,9 @@ pub record NewBook : Type 0 where
 -- The plan is what its calls write down in a new book, and each answers the new number. It is dynamic and not strong: in a dry
 -- hole grout comes right after the look, in a wet one after the pumping.
 pub record WetHole : Type 0 where
-  pub answers_are : answers new_book (calls (pos 20) []) ≡ Ok 1 ∷ Ok 2 ∷ Ok 3 ∷ Ok 4 ∷ Ok 0 ∷ Ok 1 ∷ Ok 2 ∷ Ok 3 ∷ Ok 4 ∷ []
-  pub plan_is : fed new_book (calls (pos 20) []) ≡ wet_hole
+  pub answers_are : answers new_book (calls (pos 20) [])
+      ≡ map (λ n. Ok (NewJob n)) (1 ∷ 2 ∷ 3 ∷ 4 ∷ []) ++ map (λ n. Ok (NewBound n)) (0 ∷ 1 ∷ 2 ∷ 3 ∷ 4 ∷ [])
+  pub plan_is : fed (calls (pos 20) []) ≡ wet_hole
   pub not_strong : Without (Strong wet_hole)
   pub loop : Loop (strong_system wet_hole) (1 ∷ 3 ∷ 4 ∷ 2 ∷ [])
   pub loop_of : origins (strong_origins wet_hole) (1 ∷ 3 ∷ 4 ∷ 2 ∷ []) ≡ Some (Bound 1) ∷ Some (Bound 3) ∷ Some (Bound 4) ∷ Some (Bound 2) ∷ []
@@ -75,12 +78,12 @@ abbrev pub tight : ℤ → Plain
 tight minutes = plan (pos 5) (least grout seal minutes ∷ [])
 
 pub record TightByFive : Type 0 where
-  pub plan_is : fed new_book (calls (pos 5) (least grout seal (pos 5) ∷ [])) ≡ tight (pos 5)
+  pub plan_is : fed (calls (pos 5) (least grout seal (pos 5) ∷ [])) ≡ tight (pos 5)
   pub weak : Earliest (tight (pos 5)) (Weak (tight (pos 5))) (timetable 0 61)
   pub not_dynamic : Without (Dynamic (tight (pos 5)))
 
 pub record TightByFour : Type 0 where
-  pub plan_is : fed new_book (calls (pos 5) (least grout seal (pos 4) ∷ [])) ≡ tight (pos 4)
+  pub plan_is : fed (calls (pos 5) (least grout seal (pos 4) ∷ [])) ≡ tight (pos 4)
   pub dynamic : Earliest (tight (pos 4)) (Dynamic (tight (pos 4))) (timetable 61 65)
 
 -- Minutes beyond three days are refused, and so is a bound between two jobs that exclude each other.
