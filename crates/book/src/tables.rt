@@ -65,6 +65,7 @@ impl Table {
     fn lacks_any(&self, label: Label) -> bool
         ensures { result ≡ part_missing (plain self.now) label }
     {
+        // `any` over the checks was tried, and its proof did not close.
         for c in 0..8 {
             if self.lacks_check(label, c) {
                 return true;

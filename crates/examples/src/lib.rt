@@ -6,6 +6,8 @@ ghost use Rattle.examples.specs.Worked.{Worked};
 pub mod plans;
 
 // Every worked example follows from the definitions.
-pub fn worked_examples()
+pub fn worked_examples() -> u8
     ensures { Worked }
-{}
+{
+    0
+}

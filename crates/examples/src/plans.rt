@@ -2,31 +2,19 @@
 ghost use Rattle.std.specs.Prelude.{◌≡◌, IfOk};
 ghost use Rattle.book.specs.declared.parts.Call.TheVariants.{AddBound};
 ghost use Rattle.book.specs.Held.{held};
-ghost use Rattle.examples.specs.Plans.{least as least_bound, most as most_bound, wet_hole as wet_hole_plan};
+ghost use Rattle.examples.specs.Plans.{wet_hole as wet_hole_plan};
 
 use book::keeping::Book;
 use book::list::carry_out;
 use book::parts::{Bound, Call, Kind, Label};
 use std::alloc::{AllocError, Global};
 
-// The call that adds a bound: the second job at least so many minutes after the first.
-fn least(first: usize, second: usize, minutes: i32) -> Call
-    ensures { result ≡ AddBound (least_bound first second minutes) }
+// The call that adds a bound.
+fn bound(kind: Kind, first: usize, second: usize, minutes: i32) -> Call
+    ensures { result ≡ AddBound (record { kind = kind; first = first; second = second; minutes = minutes }) }
 {
     Call::AddBound(Bound {
-        kind: Kind::Least,
-        first,
-        second,
-        minutes,
-    })
-}
-
-// The second job at most so many minutes after the first.
-fn most(first: usize, second: usize, minutes: i32) -> Call
-    ensures { result ≡ AddBound (most_bound first second minutes) }
-{
-    Call::AddBound(Bound {
-        kind: Kind::Most,
+        kind,
         first,
         second,
         minutes,
@@ -42,11 +30,11 @@ pub fn wet_hole(heap: Global) -> Result<Book, AllocError>
         Call::AddJob(Label { yes: 1, no: 0 }),
         Call::AddJob(Label { yes: 0, no: 0 }),
         Call::AddJob(Label { yes: 0, no: 1 }),
-        least(0, 1, 60),
-        least(1, 2, 5),
-        least(2, 3, 90),
-        most(1, 4, 20),
-        most(4, 3, 10),
+        bound(Kind::Least, 0, 1, 60),
+        bound(Kind::Least, 1, 2, 5),
+        bound(Kind::Least, 2, 3, 90),
+        bound(Kind::Most, 1, 4, 20),
+        bound(Kind::Most, 4, 3, 10),
     ];
     Ok(carry_out(heap, &calls)?.book)
 }

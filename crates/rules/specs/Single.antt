@@ -1,5 +1,4 @@
--- To be sound is a proposition: a ghost field can hold it under `∥ ∥₁`, and give it back.
-use Rattle.std.proofs.Math.Logic.{∥∥₁_elim}
+-- To be sound is a proposition, so a ghost field can hold it.
 use Rattle.std.specs.Prelude.{ℕ}
 use Rattle.std.proofs.Math.Bridge.{le_prop}
 use denote.Struct.Props.{props}
@@ -24,7 +23,3 @@ sound_single m x y = λ i. record {
   few_rules = le_prop x.few_rules y.few_rules i;
   each = λ r h. rule_single m.places _ (x.each r h) (y.each r h) i;
 }
-
--- what a ghost field holds under `∥ ∥₁` is had again
-pub sound_held : (m : System) → ∥ Sound m ∥₁ → Sound m
-sound_held m h = ∥∥₁_elim h (sound_single m) (λ s. s)

@@ -1,7 +1,7 @@
 // Rule systems whose rules are collected in a table.
 ghost use Rattle.std.specs.Prelude.{map};
 ghost use Rattle.rules.specs.Rules.{Sound, System};
-ghost use Rattle.rules.specs.Single.{sound_held};
+ghost use Rattle.rules.specs.Single.{sound_single};
 ghost use Rattle.rules.specs.Rows.{system_by};
 
 use crate::parts::{Alternative, Origin};
@@ -14,13 +14,13 @@ use crate::table::RuleTable;
 pub struct Collected<R: StoredRule, const N: usize> {
     pub places: usize,
     pub table: RuleTable<R, N>,
-    ghost sound: { ∥ Sound (system_by R.rule places table) ∥₁ },
+    ghost sound: { Sound (system_by R.rule places table) } by { sound_single (system_by R.rule places table) },
 }
 
 impl<R: StoredRule, const N: usize> RuleSystem for Collected<R, N> {
     ghost meaning = { λ x. system_by R.rule x.places x.table };
 
-    ghost sound = { λ x. sound_held (system_by R.rule x.places x.table) x.sound };
+    ghost sound = { λ x. x.sound };
 
     fn places(&self) -> usize {
         self.places

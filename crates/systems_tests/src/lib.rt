@@ -27,9 +27,8 @@ mod tests {
 
     fn last_of_two(held: usize, place: usize, minutes: i32) -> Expected {
         Expected {
-            held,
             count: 2,
-            last: Alternative { place, minutes },
+            ..rule(held, place, minutes)
         }
     }
 

@@ -11,4 +11,4 @@ invariant_of-result c =
     let sound : Sound (system_by rule_of c.args.places rows) = c.if-not-rows_sound.ensures.0 refl in
     let same : map rule_of rows ≡ map (λ (x : Numbered). rule_of x.row) c.numbered.result =
     sym (ap (map (λ (x : Numbered). rule_of x.row)) c.numbered.ensures ∙ numbers_rules 0 rows) in
-    record { sound = ∣ subst (λ (rules : List Rule). Sound (record { places = c.args.places; rules = rules })) same sound ∣₁ }
+    record { sound = subst (λ (rules : List Rule). Sound (record { places = c.args.places; rules = rules })) same sound }

@@ -27,4 +27,4 @@ invariant_of-result c =
     (map rule_of c.add_cases.new.out)) c.of.ensures c.add_cases.ensures in
     let places = ap₂ ◌*◌ (c.from.ensures ∙ c.cases.ensures) (ap (λ (js : List Job). length js) c.jobs.ensures) in
     let made = dynamic_made b sound c.new-table.result c.add_cases.new.out c.add_unknown.new.out _ c.new-table.ensures first c.add_unknown.ensures places in
-    record { sound = ∣ subst Sound (sym made) (systems_sound b sound).2 ∣₁ }
+    record { sound = subst Sound (sym made) (systems_sound b sound).2 }

@@ -13,4 +13,4 @@ invariant_of-result c =
     let b = held c.args.book.now in
     let made = hold_system _ _ _ _ (ap (λ (js : List Job). length js) c.jobs.ensures)
     (c.of-all.result.whole ∙ ap (λ (k : Book). holds (held k)) c.of-all.ensures) in
-    record { sound = ∣ subst Sound (sym made) ((systems_sound b (held_sound c.args.book.now)).0) ∣₁ }
+    record { sound = subst Sound (sym made) ((systems_sound b (held_sound c.args.book.now)).0) }
