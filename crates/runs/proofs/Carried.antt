@@ -112,3 +112,6 @@ module _ (r : Walking) where
 pub heard : (r : Asking) (report : Report) → report.check ≡ r.check →
     Lawful (plan_of r.run) (times_of r.run) (Reported report ∷ log_of r.run)
 heard r report e = (r.run.law, subst (λ c. Asked (plan_of r.run) (log_of r.run) c) (sym e) r.asks)
+
+-- what a run that goes on carries over
+pub ruleset going_on = (keeps, asked_next, none_next)

@@ -29,7 +29,7 @@ impl RunSheet {
 
 impl<'a> Run<'a> {
     // Asks for the lowest check awaited, or walks on.
-    #[tactic(auto, using(crate::proofs::Carried::keeps, crate::proofs::Carried::asked_next, crate::proofs::Carried::none_next))]
+    #[tactic(auto, using(crate::proofs::Carried::going_on))]
     fn go_on(self) -> Answered<'a>
         ensures { Answers self.entry.sheet.now (recorded self.entry.log) result }
     {
