@@ -55,7 +55,7 @@ impl fmt::Display for FileFault {
 }
 
 // A fault of the file, or a refusal of the book.
-#[derive(Clone, Copy)]
+#[derive(Clone, Copy, Debug, PartialEq, Eq)]
 pub enum Reason {
     File(FileFault),
     Book(Refusal),
@@ -103,7 +103,7 @@ impl fmt::Display for Reason {
 }
 
 // A fault and where it is: the line from 1, the byte from 0.
-#[derive(Clone, Copy)]
+#[derive(Clone, Copy, Debug, PartialEq, Eq)]
 pub struct Fault {
     pub reason: Reason,
     pub line: usize,
