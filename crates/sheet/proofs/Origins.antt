@@ -1,13 +1,10 @@
 -- Every origin of a plan's rules names a bound, jobs and a check of the book.
-use Rattle.std.proofs.Common.{◌≡◌, Some, refl, ℕ, zero, suc, ◌<◌, not, eqb, List, [], ◌∷◌, ◌++◌, map, length, get_or, arith}
+use Rattle.std.proofs.Common.{ℕ, zero, suc, ◌<◌, not, eqb, List, [], ◌∷◌, ◌++◌, map, length, get_or, arith}
 use lib.ListN.{length-map}
-use Rattle.std.proofs.lemmas.Bool.{lt-ltb}
-use Rattle.book.specs.Done.{check_job}
-use Rattle.book.specs.Sound.{Sound}
 use Rattle.book.specs.declared.parts.Kind.{Kind}
 use Rattle.book.specs.declared.parts.Kind.TheVariants.{Least, Most}
 use Rattle.book.specs.Labels.{names}
-use Rattle.book.specs.Plain.{Plain, job, bound, checks, asking}
+use Rattle.book.specs.Plain.{Plain, job, bound, checks}
 use Rattle.rules.specs.declared.parts.Origin.TheVariants.{Bound}
 use Rattle.std.proofs.lemmas.List.{get_or-map}
 use Rattle.rules.specs.Rules.{System}
