@@ -1,8 +1,7 @@
 -- Rows that are numbered one after another.
-use Rattle.std.proofs.Common.{◌≡◌, ℕ, suc, ◌+◌, ◌<◌, List, [], ◌∷◌, ◌++◌, map, length, take, get_or, sym, refl, ap, ◌∙◌, arith}
+use Rattle.std.proofs.Common.{◌≡◌, ℕ, suc, ◌+◌, ◌<◌, List, [], ◌∷◌, ◌++◌, map, length, take, get_or, refl, ap, ◌∙◌, arith}
 use Rattle.std.proofs.lemmas.List.{take_more, length-take-le}
 use Rattle.rules.specs.declared.rows.Row.{Row}
-use Rattle.rules.specs.Rules.{Rule}
 use Rattle.rules.specs.Rows.{rule_of}
 use Rattle.listed.specs.declared.numbered.Numbered.{Numbered}
 use Rattle.listed.specs.Numbered.{with_numbers}

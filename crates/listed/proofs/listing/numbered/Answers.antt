@@ -1,7 +1,6 @@
-use Rattle.std.proofs.Common.{◌≡◌, ◌+◌, ◌<◌, ◌≤◌, ◌++◌, ◌∷◌, [], length, take, get_or, sym, ap, ◌∙◌, arith}
-use Rattle.std.proofs.lemmas.List.{take_all, length-take, length_push}
+use Rattle.std.proofs.Common.{◌+◌, ◌≤◌, ◌++◌, ◌∷◌, [], length, take, get_or, sym, ap, ◌∙◌, arith}
+use Rattle.std.proofs.lemmas.List.{take_all, length-take}
 use Rattle.rules.specs.declared.rows.Row.{Row}
-use Rattle.listed.specs.declared.numbered.Numbered.{Numbered}
 use Rattle.listed.specs.Numbered.{with_numbers}
 use Rattle.listed.proofs.Numbers.{one_more, numbers_long}
 use Rattle.listed.proofs.listing.numbered.Goals as goal

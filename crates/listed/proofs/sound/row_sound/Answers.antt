@@ -1,9 +1,9 @@
-use Rattle.std.proofs.Common.{◌≡◌, ◌<◌, min, length, take, Decides, pos, sym, ap, ◌∙◌, subst, arith, rules, tests}
+use Rattle.std.proofs.Common.{◌≡◌, ◌<◌, length, take, Decides, pos, sym, ap, ◌∙◌, subst, arith, rules, tests}
 use Rattle.std.specs.List.{AllWithin}
 use Rattle.std.proofs.lemmas.Iterator.{cases_from_all, YieldsList-from_slice}
 use Rattle.std.proofs.lemmas.List.{length-take, get_or-take}
-use Rattle.rules.specs.Rules.{SoundAlternative, SoundRule}
-use Rattle.rules.specs.Rows.{rule_of, step_of}
+use Rattle.rules.specs.Rules.{SoundAlternative}
+use Rattle.rules.specs.Rows.{step_of}
 use Rattle.rules.specs.declared.rows.Step.{Step}
 use Rattle.rules.proofs.RowRules.{row_alternative, row_count}
 use Rattle.listed.proofs.Decided.{all_decides, decides_as}
@@ -16,7 +16,8 @@ returns c =
     let P : Step → Type 0 = λ s. SoundAlternative c.args.places (step_of s) in
     let blank : Step = record { place = 0; minutes = pos 0 } in
     let by_call : Decides c.all.result (AllWithin P steps 0 (length steps)) = all_decides P blank steps _
-    (cases_from_all _ _ _ P (λ s. P s → ⊥) c.all.ensures.ran (YieldsList-from_slice steps cc) (λ x q k. search (rules, tests)) (λ x q k. search (rules, tests))) in
+    (cases_from_all _ _ _ P (λ s. P s → ⊥) c.all.ensures.ran (YieldsList-from_slice steps cc)
+    (λ x q k. search (rules, tests)) (λ x q k. search (rules, tests))) in
     let five : length row.alternatives ≡ 5 = search rules in
     decides_as by_call
     (λ h. record {

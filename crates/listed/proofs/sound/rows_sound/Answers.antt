@@ -15,7 +15,8 @@ returns c =
     let P : Row → Type 0 = λ row. SoundRule c.args.places (rule_of row) in
     let blank : Row = record { held = 0; count = 0; alternatives = [] } in
     let by_call : Decides c.all.result (AllWithin P rows 0 (length rows)) = all_decides P blank rows _
-    (cases_from_all _ _ _ P (λ s. P s → ⊥) c.all.ensures.ran (YieldsList-from_slice rows cc) (λ x q k. search (rules, tests)) (λ x q k. search (rules, tests))) in
+    (cases_from_all _ _ _ P (λ s. P s → ⊥) c.all.ensures.ran (YieldsList-from_slice rows cc)
+    (λ x q k. search (rules, tests)) (λ x q k. search (rules, tests))) in
     decides_as by_call
     (λ h. record {
       some = omega arith;
