@@ -1,10 +1,12 @@
 -- How long a sheet can be: its names have at most 8 letters, its minutes at most 10 digits.
-use Rattle.std.proofs.Common.{◌≡◌, ℕ, zero, suc, ◌+◌, ◌*◌, ◌^◌, ◌<◌, ◌≤◌, Bool, true, false, List, [], ◌∷◌, length, get_or, take, drop, ℤ, pos, negsuc}
-use Rattle.std.proofs.Common.{All, decimal, add-one, refl, ◌⊎◌, inl, inr, arith, length-append, length-take}
+use Rattle.std.proofs.Common.{◌≡◌, ℕ, zero, suc, ◌+◌, ◌*◌, ◌^◌, ◌<◌, ◌≤◌, Bool, true, false, cond, List, [], ◌∷◌, length, get_or, take, drop, ℤ, pos, negsuc}
+use Rattle.std.proofs.Common.{All, decimal, add-one, refl, ap, ◌∙◌, ◌⊎◌, inl, inr, arith, length-append, length-take}
 use lib.Signed.{mag}
 use Rattle.std.proofs.lemmas.List.Elements.{All-get_or}
 use Rattle.std.proofs.lemmas.Fmt.{length-decimal-le}
-use Rattle.std.proofs.lemmas.List.Sums.{count_by-le-length}
+use Rattle.std.specs.List.{count_by}
+use Rattle.std.proofs.lemmas.List.{take_all}
+use Rattle.std.proofs.lemmas.List.Sums.{count_by-le-length, count_by_more_yes, count_by_more_no}
 use Rattle.format.specs.declared.parts.NamePlace.{NamePlace}
 use Rattle.format.specs.declared.parts.Fault.{Fault}
 use Rattle.format.specs.declared.parts.FileFault.{FileFault}
@@ -66,12 +68,30 @@ jobs_fit name row i n z more p q one =
     let line : length (job_line (name i) (get_or row i (pos 0))) ≤ 20 = rw (p, q) at one in
     rw (add-one i) (rw (length-append (job_lines name row i) (job_line (name i) (get_or row i (pos 0)))) (omega arith))
 
+-- the jobs done are those of the row that are done
+one_more : (row : List ℤ) (n : ℕ) (t : Bool) → n < length row → is_done (get_or row n (pos 0)) ≡ t
+    → count_by is_done (take (n + 1) row) ≡ count_by is_done (take n row) + cond t 1 0
+one_more row n true h e = count_by_more_yes is_done row n (pos 0) h e
+one_more row n false h e = omega (arith, count_by_more_no is_done row n (pos 0) h e)
+
+counted : (row : List ℤ) (n : ℕ) → n ≤ length row → jobs_done row n ≡ count_by is_done (take n row)
+unfolding jobs_done
+counted row zero h = refl
+counted row (suc n) h =
+    let more = one_more row n (is_done (get_or row n (pos 0))) (omega arith) refl in
+    let here = counted row n (omega arith) in
+    let next : count_by is_done (take (n + 1) row) ≡ count_by is_done (take (suc n) row) = ap (λ k. count_by is_done (take k row)) (add-one n) in
+    omega (arith, more, here, next)
+
+pub all_counted : (row : List ℤ) → jobs_done row (length row) ≡ count_by is_done row
+all_counted row = counted row (length row) (omega arith) ∙ ap (count_by is_done) (take_all (length row) row (omega arith))
+
 pub case_fits : (name : ℕ → List ℕ) (case : ℕ) (row : List ℤ) → case < 2 ^ 8 → length row < 2 ^ 64 → length (job_lines name row (length row)) ≤ 20 * length row
     → length (case_lines name (length row) case row) ≤ 35 + 20 * length row
 case_fits name case row l long lines =
-    let count : jobs_done row ≤ length row = count_by-le-length is_done row in
+    let count : jobs_done row (length row) ≤ length row = omega (arith, all_counted row, count_by-le-length is_done row) in
     let a = length-decimal-le 3 case (omega arith) (omega arith) (omega arith) in
-    let b = length-decimal-le 20 (jobs_done row) (omega arith) (omega arith) (omega arith) in
+    let b = length-decimal-le 20 (jobs_done row (length row)) (omega arith) (omega arith) (omega arith) in
     simp length-append (omega arith)
 
 pub cases_fit : (name : ℕ → List ℕ) (jobs : ℕ) (minutes : List ℤ) (s k : ℕ) (row : List ℤ) → jobs ≤ 20 → length (cases_lines name jobs minutes s) ≤ 435 * s

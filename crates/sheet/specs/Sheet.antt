@@ -1,6 +1,6 @@
 -- The sheet that is printed for a plan, line by line.
-use Rattle.std.specs.Prelude.{ℕ, zero, suc, ◌*◌, ◌<◌, Bool, true, false, List, [], ◌∷◌, ◌++◌, length, take, drop, ℤ, pos, negsuc}
-use Rattle.std.specs.Prelude.{Some, None, codes, decimal, Option, slice_index_or, count_by}
+use Rattle.std.specs.Prelude.{ℕ, zero, suc, ◌+◌, ◌*◌, ◌<◌, Bool, true, false, cond, List, [], ◌∷◌, ◌++◌, length, take, drop, ℤ, pos, negsuc}
+use Rattle.std.specs.Prelude.{Some, None, codes, decimal, Option, slice_index_or}
 use Rattle.book.specs.Plain.{Plain, asking, checks, cases}
 use Rattle.rules.specs.declared.parts.Origin.{Origin}
 use Rattle.rules.specs.declared.parts.Origin.TheVariants.{Bound, Start, Check}
@@ -60,8 +60,9 @@ abbrev pub is_done : ℤ → Bool
 is_done (pos m) = true
 is_done (negsuc m) = false
 
-abbrev pub jobs_done : List ℤ → ℕ
-jobs_done row = count_by is_done row
+unfoldable pub jobs_done : List ℤ → ℕ → ℕ
+jobs_done row zero = 0
+jobs_done row (suc n) = jobs_done row n + cond (is_done (slice_index_or row n (pos 0))) 1 0
 
 -- the minutes of a case in a list that has them case by case
 abbrev pub row_of : List ℤ → ℕ → ℕ → List ℤ
@@ -69,7 +70,7 @@ row_of minutes jobs s = take jobs (drop (s * jobs) minutes)
 
 -- a case with its number of jobs done, and their lines
 abbrev pub case_lines : (ℕ → List ℕ) → ℕ → ℕ → List ℤ → List ℕ
-case_lines name jobs s row = line (codes "case" ∷ decimal s ∷ codes "jobs" ∷ decimal (jobs_done row) ∷ []) ++ job_lines name row jobs
+case_lines name jobs s row = line (codes "case" ∷ decimal s ∷ codes "jobs" ∷ decimal (jobs_done row jobs) ∷ []) ++ job_lines name row jobs
 
 abbrev pub cases_lines : (ℕ → List ℕ) → ℕ → List ℤ → ℕ → List ℕ
 cases_lines name jobs minutes zero = []

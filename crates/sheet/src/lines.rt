@@ -5,7 +5,7 @@ ghost use Rattle.book.specs.Plain.{cases};
 ghost use Rattle.book.specs.Held.{held};
 ghost use Rattle.format.specs.Named.{name};
 ghost use Rattle.verdicts.specs.Verdicts.{size};
-ghost use Rattle.sheet.specs.Sheet.{fault_line, job_line, job_lines, case_lines, cases_lines, table_lines};
+ghost use Rattle.sheet.specs.Sheet.{fault_line, job_line, job_lines, jobs_done, case_lines, cases_lines, table_lines};
 ghost use Rattle.sheet.specs.Sheet.{origin_line, origin_lines, loop_lines, Within};
 
 use crate::grade::Grade;
@@ -54,13 +54,20 @@ fn put_jobs(page: &mut Page, names: Names<'_>, row: &[i32]) -> Result<(), AllocE
     Ok(())
 }
 
+// How many jobs of a case are done.
+fn count_done(row: &[i32]) -> usize
+    ensures { result ≡ jobs_done row.now (length row.now) }
+{
+    row.iter().filter(|minute| **minute >= 0).count()
+}
+
 // Puts a case: its number of jobs done, and their lines.
 fn put_case(page: &mut Page, names: Names<'_>, case: u8, row: &[i32]) -> Result<(), AllocError>
     ensures put { OnOk result (page.new ≡ page.old ++ case_lines (name names.entry) (length row.now) case row.now) }
     ensures short { OnOk result
         (length (case_lines (name names.entry) (length row.now) case row.now) ≤ 35 + 20 * length row.now) }
 {
-    let done = row.iter().filter(|minute| **minute >= 0).count();
+    let done = count_done(row);
     write!(page, "case {case} jobs {done}\n")?;
     put_jobs(page, names, row)
 }
