@@ -10,7 +10,7 @@ use std::alloc::{AllocError, Global};
 use std::fmt;
 use verdicts::{DynamicAnswer, StrongAnswer, WeakAnswer};
 
-// A reply, printed as its line.
+// A reply, printed as its line: a type of this crate, since a Display stands with the trait or the type.
 #[derive(Clone, Copy)]
 struct Line(Reply);
 

@@ -1,4 +1,4 @@
-// Lists that are written over in place.
+// Lists that are written over in place: a clone would want memory, and a call on a book wants none.
 ghost use Rattle.std.specs.Prelude.{◌≡◌, ◌≤◌, length, vec_capacity};
 
 // Makes a list hold what a slice holds, in the room that it has.

@@ -1,4 +1,4 @@
-// The numbers of refusals.
+// The numbers of refusals. It is one line for each enum of them; a trait would be longer.
 ghost use Rattle.std.specs.Prelude.{◌≡◌};
 ghost use Rattle.book.specs.Plain.{number};
 

@@ -1,4 +1,5 @@
 // What holds of every plain book.
+// A theorem is the contract of a function with no parameter that answers 0, a rule of the project.
 ghost use Rattle.book.specs.Theorems.{ChecksDone, StaysSound};
 
 // A job that is done in a case has every check of its label done there.

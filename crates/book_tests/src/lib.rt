@@ -7,7 +7,7 @@ mod tests {
     use book::parts::{Answer, Bound, Call, Kind, Label, Refusal};
     use std::test::Fail;
 
-    // The number of the refusal, if the call is refused.
+    // The number of the refusal, if the call is refused: the tests hold the numbers, as a plan's author sees them.
     fn refusal(answer: Answer) -> Option<u8> {
         answer.err().map(Refusal::number)
     }

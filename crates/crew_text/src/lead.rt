@@ -30,7 +30,7 @@ fn put_plan(
     }
 }
 
-// Puts the run of a plan text, or its fault.
+// Puts the run of a plan text, or its fault. A plan file has room for 99 names.
 fn put_text(
     page: &mut Page,
     heap: Global,

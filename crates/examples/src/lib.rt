@@ -5,7 +5,7 @@ ghost use Rattle.examples.specs.Worked.{Worked};
 
 pub mod plans;
 
-// Every worked example follows from the definitions.
+// Every worked example follows from the definitions: a theorem, so the contract of a function that answers 0.
 pub fn worked_examples() -> u8
     ensures { Worked }
 {

@@ -1,4 +1,5 @@
-// The least table, written over a caller's numbers.
+// The least table, written over a caller's numbers. It differs from the search that explains a no in its answer and in one more list, and
+// what the two share is one call each.
 ghost use Rattle.find.specs.Answers.{Finds};
 
 use crate::answers::{Found, Refusal};

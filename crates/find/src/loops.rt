@@ -19,7 +19,7 @@ pub(crate) struct Barred {
 
 impl Barred {
     // Walks from the place, by the rules that bar it, until a place comes again. The rules are written over the first
-    // of `walked`, an array since a search wants no memory; those of the loop are the answer.
+    // of `walked`, which the caller lends, so that the loop can be given as a part of it; `seen` has how many went before each place.
     fn walk<'a, T: RuleSystem>(&self, system: &T, walked: &'a mut [usize; PLACES]) -> &'a [usize]
         requires { Stuck (T.meaning system.now) self.now.table.by self.now.place }
         ensures { Loop (T.meaning system.now) result.now }
@@ -60,7 +60,7 @@ fn write_origins<T: WithOrigins>(system: &T, rules: &[usize], out: &mut [Origin]
     requires wide { length rules.now ≤ length out.old }
     ensures { out.new ≡ map (origin_of (T.origins system.now)) rules.now ++ drop (length rules.now) out.old }
 {
-    // By index, since the caller's slice is filled in part.
+    // By index: after an iterator over a part of the caller's slice nothing is known of what was written.
     for (i, &number) in rules.iter().enumerate() {
         out[i] = system.origin(number).unwrap();
     }

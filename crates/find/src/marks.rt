@@ -7,7 +7,7 @@ use crate::asking::Rule;
 use crate::tables::{PLACES, Table};
 use rules::system::RuleSystem;
 
-// Whether each place is marked.
+// Whether each place is marked. The marks live for one round, so they stand apart from the table.
 #[derive(Clone, Copy)]
 pub(crate) struct Marks {
     inside: [bool; PLACES],
@@ -26,7 +26,8 @@ impl Marks {
         Marks { inside }
     }
 
-    // Takes the mark off each place whose rule leads out, once, and says whether there was any.
+    // Takes the mark off each place whose rule leads out, once, and says whether there was any. Each test reads the marks as they then are,
+    // so this is no `map`.
     fn sweep<T: RuleSystem>(&mut self, system: &T, table: &Table) -> bool
         requires { (p : ℕ) → In self.old.inside p → Ruled (T.meaning system.now) table.now.by p }
         ensures peels { Peels (T.meaning system.now) table.now.by self.old.inside self.new.inside }

@@ -10,7 +10,8 @@ use std::marker::Model;
 // As many places as a rule system may have.
 pub(crate) const PLACES: usize = 320;
 
-// The minute of a place so far, and the number of the rule that raised it last.
+// The minute of a place so far, and the number of the rule that raised it last. At minute 0 no rule has: the number means nothing then,
+// and an Option would make each of 320 places longer.
 #[derive(Clone, Copy)]
 pub(crate) struct Place {
     pub(crate) minute: u32,
@@ -83,7 +84,7 @@ impl Table {
         requires wide { n ≤ length minutes.old }
         ensures { minutes.new ≡ map pos (take n self.now.minutes) ++ drop n minutes.old }
     {
-        // By index, since the caller's slice is filled in part.
+        // By index: after an iterator over a part of the caller's slice nothing is known of what was written.
         for (p, place) in self.places[..n].iter().enumerate() {
             minutes[p] = place.minute as i32;
         }

@@ -45,7 +45,7 @@ fn show(rt: HostRuntime, system: &Listed, places: usize) -> io::Result<()> {
     }
 }
 
-// The number of the bound that a rule comes from, or 1000 for what the output shows of other origins.
+// The number of the bound that a rule comes from, or 1000 for another origin: the program's output, which stays, shows it so.
 fn bound(origin: Origin) -> usize {
     match origin {
         Origin::Bound(n) => n,

@@ -35,7 +35,7 @@ impl<'a> Names<'a> {
         }
     }
 
-    // The name of a job: `start` for job 0, which has none in the text, and nothing past the last.
+    // The name of a job: `start` for job 0, which has none in the text, and nothing past the last, so that a line can be put without a test.
     pub fn name(self, job: usize) -> &'a [u8]
         ensures name { result.now ≡ name self.entry job }
         ensures short { length result.now ≤ 8 }

@@ -1,4 +1,5 @@
 // What holds of every text, named so that the check covers it.
+// A theorem is the contract of a function with no parameter that answers 0, a rule of the project.
 ghost use Rattle.format.specs.Theorems.{ReadsExactly, ReadsPlans, OnePlan, FaultsByLines, FirstFault, LinesBefore};
 ghost use Rattle.format.specs.Example.{FaultsMet};
 

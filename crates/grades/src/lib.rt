@@ -1,4 +1,5 @@
-// The tables that keep the rules of a plan are its strategies: each theorem is named by a call's contract.
+// The tables that keep the rules of a plan are its strategies: each theorem is named by the contract of a
+// function with no parameter that answers 0, a rule of the project.
 #![tactic(auto)]
 
 pub mod holds;

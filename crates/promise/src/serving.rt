@@ -1,4 +1,5 @@
-// Requests, one after another.
+// Requests, one after another. The book and the lists stay parameters: the lists are a caller's, filled in part, and a struct that holds a
+// `&mut` to one can keep no fact about it in its type.
 ghost use Rattle.std.specs.Prelude.{◌≡◌, ◌≤◌, [], length, vec_len, vec_capacity};
 ghost use Rattle.book.specs.Held.{held};
 ghost use Rattle.promise.specs.Serving.{desk, Served, AllServed};

@@ -31,7 +31,7 @@ pub(crate) fn count(line: Piece, key: &[u8]) -> Result<usize, Fault>
     Ok(n as usize)
 }
 
-// What a word enters. The three tables below answer types of other crates, so they are no TryFrom, and one of them for all would be longer.
+// What a word enters. One function for this table and the two below would be longer, with a table as its argument.
 #[tactic(auto, using(std::proofs::lemmas::Grind::common_steps, crate::proofs::Pieces::not_same))]
 fn work_of(word: &[u8]) -> Option<Work>
     ensures { result ≡ work_of word.now }
@@ -143,10 +143,10 @@ impl Register<'_> {
         if !is_name(name) {
             return Err(word.fault(FileFault::BadName));
         }
-        match self.find_check(name) {
-            Some(c) => Ok(wanting(label, sign, c)),
-            None => Err(word.fault(FileFault::UnknownName)),
-        }
+        let c = self
+            .find_check(name)
+            .ok_or(word.fault(FileFault::UnknownName))?;
+        Ok(wanting(label, sign, c))
     }
 
     // The label that the words left of a line give.

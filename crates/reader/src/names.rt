@@ -36,7 +36,7 @@ pub(crate) fn job_number(text: &[u8], names: &[NamePlace], word: &[u8]) -> Optio
     if is_start(word) {
         return Some(0);
     }
-    // `position` was tried: each place must lie in the text, and a closure may be asked at any place.
+    // `position` was tried, and the proof of its closure did not close.
     for (i, place) in names.iter().enumerate() {
         if stands_at(text, *place, word) {
             return Some(i + 1);

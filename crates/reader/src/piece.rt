@@ -3,7 +3,7 @@ ghost use Rattle.std.specs.Prelude.{◌≡◌, ◌+◌, ◌≤◌, length};
 
 use crate::place::fault;
 use book::parts::Refusal;
-use format::parts::{Fault, FileFault, Reason};
+use format::parts::{Fault, FileFault};
 
 // A piece of a text: its bytes, the line that it begins on, and the place of its first byte.
 #[derive(Clone, Copy)]
@@ -33,7 +33,7 @@ impl<'a> Piece<'a> {
         match answer {
             Ok(_) => Ok(()),
             Err(refusal) => Err(Fault {
-                reason: Reason::Book(refusal),
+                reason: refusal.into(),
                 line: self.line,
                 byte: self.byte,
             }),

@@ -68,7 +68,8 @@ impl<'a> Reader<'a> {
         Ok(line)
     }
 
-    // Enters what a line says, or alters nothing. The section is where the text has got to, so a match tells plainest what each line does.
+    // Enters what a line says, or alters nothing. The book and the name list are lent and altered, so they stay parameters. The section is
+    // where the text has got to, so a match tells plainest what each line does.
     fn take(
         &mut self,
         line: Piece<'a>,

@@ -9,7 +9,7 @@ pub(crate) fn is_name(word: &[u8]) -> bool
     (1..=8).contains(&word.len()) && word.iter().all(|b| b.is_ascii_lowercase())
 }
 
-// The number that one to `most` digits write, with no zero in front of others.
+// The number that one to `most` digits write, with no zero in front of others. `parse` would take a plus sign and such zeros.
 pub(crate) fn natural(word: &[u8], most: usize) -> Option<u32>
     requires few { most ≤ 5 }
     ensures value { result ≡ natural_of most word.now }

@@ -4,7 +4,7 @@
 #[cfg(test)]
 mod tests {
     use book::keeping::Book;
-    use format::parts::{FileFault, NamePlace, Reason};
+    use format::parts::{Fault, FileFault, NamePlace, Reason};
     use reader::place::Unread;
     use reader::reading::read;
     use std::alloc::Global;
@@ -20,13 +20,12 @@ mod tests {
         byte: usize,
     ) -> Result<bool, Fail> {
         let mut book = Book::new(heap)?;
-        let mut names = [NamePlace { byte: 0, length: 0 }; 99];
+        let mut names = [NamePlace::default(); 99];
         match read(heap, text, &mut book, &mut names[..room.min(99)]) {
-            Err(Unread::Fault(fault)) => Ok(
-                matches!(fault.reason, Reason::File(file) if file == what)
-                    && fault.line == line
-                    && fault.byte == byte,
-            ),
+            Err(Unread::Fault(fault)) => {
+                let reason = Reason::File(what);
+                Ok(fault == Fault { reason, line, byte })
+            }
             _ => Ok(false),
         }
     }

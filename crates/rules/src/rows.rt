@@ -12,8 +12,8 @@ pub struct Step {
     pub minutes: i16,
 }
 
-// The place that a rule holds back, and its alternatives: the first `count` of five. A list of its own length would make each row
-// longer by half.
+// The place that a rule holds back, and its alternatives: the first `count` of five. No list of its own length: a verdict wants no
+// memory, and an `ArrayVec` would add a word to each of 8,192 rows on the stack.
 #[derive(Clone, Copy, Debug, Default, PartialEq, Eq)]
 pub struct Row {
     pub held: u16,
@@ -45,10 +45,8 @@ impl StoredRule for Row {
     }
 
     fn alternative(&self, a: usize) -> Option<Alternative> {
-        if a < self.count() {
-            Some(self.alternatives[a].into())
-        } else {
-            None
-        }
+        self.alternatives[..self.count()]
+            .get(a)
+            .map(|step| Alternative::from(*step))
     }
 }

@@ -18,7 +18,7 @@ fn earliest(book: &Book) -> Option<[i32; 320]>
     match dynamic(book, &mut minutes) {
         Ok(DynamicAnswer::Yes) => Some(minutes),
         Ok(DynamicAnswer::No) => None,
-        // 320 numbers are enough for every book
+        // 320 numbers are enough for every book, so this does not come.
         Err(_) => None,
     }
 }

@@ -35,6 +35,7 @@ fn due_in(row: &[i32], minute: u32) -> u32
     requires few { length row.now ≤ 20 }
     ensures { JobsBelow row.now minute (length row.now) result }
 {
+    // A `fold` would carry the set through its closure and be no shorter.
     let mut jobs = 0;
     for (j, shown) in row.iter().enumerate() {
         if is_due(*shown, minute) {

@@ -13,7 +13,8 @@ use page::Page;
 use reader::{Unread, read};
 use std::alloc::{AllocError, Global};
 
-// Puts the sheet of a text: of its fault, or of its plan.
+// Puts the sheet of a text: of its fault, or of its plan. The crew's text begins alike and differs in each arm; a function for both would
+// have to lend the book and the places to what it is given. A plan file has room for 99 names.
 fn put_text(page: &mut Page, heap: Global, text: &[u8]) -> Result<(), AllocError>
     ensures { OnOk result (TextPut text.now page.old page.new) }
 {
@@ -21,7 +22,7 @@ fn put_text(page: &mut Page, heap: Global, text: &[u8]) -> Result<(), AllocError
     let mut places = [NamePlace::default(); 99];
     match read(heap, text, &mut book, &mut places) {
         Ok(()) => {
-            // A plan's names do stand in its text; no clause of `read` says so yet.
+            // A plan's names do stand in its text; no clause of `read` says so yet, so this answers as for want of memory.
             let Some(names) = Names::new(text, &places) else {
                 return Err(AllocError);
             };

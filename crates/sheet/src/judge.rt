@@ -1,4 +1,5 @@
-// The three verdicts on a plan, with the minutes of the strongest grade that has a yes.
+// The three verdicts on a plan, with the minutes of the strongest grade that has a yes. The lists are lent to the verdicts, so they are
+// arrays beside them.
 ghost use Rattle.book.specs.Held.{held};
 ghost use Rattle.sheet.specs.Judged.{Judged};
 

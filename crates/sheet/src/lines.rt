@@ -1,4 +1,5 @@
-// The lines of a sheet, each put at the end of a page, which is a parameter as the formatter of a `fmt` is.
+// The lines of a sheet, each put at the end of a page, which is a parameter as the formatter of a `fmt` is. No Display has them, since
+// its contract could not say how long they are. A minute below 0 is that of a job not done, as the verdicts write it.
 // Kept beside the plan and not in one struct with it: each clause would have to say as well that the plan stays the same.
 ghost use Rattle.std.specs.Prelude.{◌≡◌, ◌+◌, ◌*◌, ◌≤◌, ◌++◌, All, length, take, OnOk};
 ghost use Rattle.book.specs.Plain.{cases};

@@ -13,7 +13,7 @@ pub struct Verdicts {
     pub weak: WeakAnswer,
 }
 
-// The word of a verdict.
+// The word of a verdict: a `bool` prints other words.
 fn answer_word(yes: bool) -> &'static str
     ensures { result.now ≡ answer_word yes }
 {

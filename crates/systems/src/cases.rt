@@ -1,4 +1,5 @@
-// The holds that are due in a case, and the rules of each case, collected in their order.
+// The holds that are due in a case, and the rules of each case, collected in their order. A case is a number, since only two functions
+// need that the book has it.
 ghost use Rattle.std.specs.Prelude.{◌≡◌, ◌+◌, ◌<◌, ◌&&◌, map, pos, neg_ℤ, ◌≤ℤ◌};
 ghost use Rattle.book.specs.Plain.{cases};
 ghost use Rattle.book.specs.Done.{done};

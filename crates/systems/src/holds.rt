@@ -1,5 +1,5 @@
 // The holds of a book, collected in their order: one function for each kind of hold takes the book and the table; a struct of these two
-// would only rename them.
+// would only rename them. Tables are filled by a `for`, here and in the modules beside: `extend` fails at a full table, which is none here.
 ghost use Rattle.std.specs.Prelude.{◌≡◌, ◌<◌, pos, neg_ℤ, ◌≤ℤ◌};
 ghost use Rattle.book.specs.Plain.{asking, job};
 ghost use Rattle.book.specs.Held.{held};
@@ -37,7 +37,8 @@ impl<'a> BookHolds<'a> {
     }
 }
 
-// The job that is check `c` of the book, past the last where there is none.
+// The job that is check `c` of the book, past the last where there is none: the definition of a plan's rules counts so, and an Option
+// would be unwrapped wherever it is asked.
 pub(crate) fn asking(book: &Book, c: u8) -> usize
     ensures { result ≡ asking (held book.now) c }
 {
@@ -98,6 +99,7 @@ fn add_bounds(book: &Book, out: &mut HoldTable)
 fn add_starts(book: &Book, out: &mut HoldTable)
     ensures { Adds 164 out.old (start_holds (held book.now)) out.new }
 {
+    // From 0 on, as the definition tests each job.
     for j in 0..book.jobs().len() {
         if j != 0 {
             out.push(start_hold(j));

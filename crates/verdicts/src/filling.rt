@@ -1,4 +1,4 @@
-// A table of minutes, spread over the minutes list case by case.
+// A table of minutes, spread over the minutes list case by case. The book and the lists stay parameters side by side, as in the verdicts.
 ghost use Rattle.std.specs.Prelude.{◌≡◌, ℕ, ◌+◌, ◌*◌, ◌≤◌, length, negsuc, if◌then◌else◌};
 ghost use Rattle.book.specs.Plain.{Case};
 ghost use Rattle.book.specs.Held.{held};
@@ -8,7 +8,7 @@ ghost use Rattle.verdicts.specs.Verdicts.{size};
 
 use book::keeping::Book;
 
-// What the minutes list has for a job: its minute, or -1 where it is not done.
+// What the minutes list has for a job: its minute, or -1 where it is not done, as a caller's list of numbers has it.
 fn shown(done: bool, minute: i32) -> i32
     ensures { result ≡ (if done then minute else negsuc 0) }
 {
@@ -23,12 +23,13 @@ fn fill_case(book: &Book, case: u8, table: &[i32], from: usize, minutes: &mut [i
 {
     let jobs = book.jobs();
     let first = case as usize * jobs.len();
+    // By index: after an iterator over a part of the list nothing is known of what was written.
     for (j, job) in jobs.iter().enumerate() {
         minutes[first + j] = shown(job.label.meets(case), table[from + j]);
     }
 }
 
-// Writes the minutes of every case; those of two cases stand `apart` places from each other in `table`.
+// Writes the minutes of every case; those of two cases stand `apart` places from each other in `table`: 0 where all cases have the same.
 pub(crate) fn fill(book: &Book, table: &[i32], apart: usize, minutes: &mut [i32])
     requires near { apart ≤ 20 }
     requires within { (s : ℕ) → Case (held book.now) s → s * apart + length (held book.now).jobs ≤ length table.now }

@@ -1,4 +1,4 @@
-// The searches of the rules of a book: strong, weak for one case, and dynamic.
+// The searches of the rules of a book: strong, weak for one case, and dynamic. The book and the lists stay parameters, as in the verdicts.
 ghost use Rattle.std.specs.Prelude.{◌≤◌, length};
 ghost use Rattle.book.specs.Held.{held};
 ghost use Rattle.find.specs.Answers.{Finds};

@@ -1,5 +1,6 @@
 // The verdicts. The book and the caller's lists stay parameters side by side: the lists are filled in part, a rule of the project, and
-// a struct that holds a `&mut` to one can keep no fact about it in its type.
+// a struct that holds a `&mut` to one can keep no fact about it in its type. Each verdict has refusals and a table of its own, so what
+// they share stays as short as this. The tables are arrays, since a verdict wants no memory.
 ghost use Rattle.std.specs.Prelude.{◌≡◌, ◌≤◌, length};
 ghost use Rattle.book.specs.Held.{held};
 ghost use Rattle.verdicts.specs.declared.answers.WeakAnswer.TheVariants.{No as WeakNo};

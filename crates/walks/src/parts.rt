@@ -23,7 +23,7 @@ pub enum Event {
     Reported(Report),
 }
 
-// The telling of no job at minute 0, which fills the unused places of a log.
+// The telling of no job at minute 0: a list of fixed room holds it where it has no event yet.
 impl Default for Event {
     ghost is_default = { λ e. e ≡ Told (record { minute = 0; jobs = 0 }) };
 

@@ -1,4 +1,5 @@
 // Theorems on logs of runs.
+// A theorem is the contract of a function with no parameter that answers 0, a rule of the project.
 ghost use Rattle.walks.specs.Law.{LawfulKeepLaw, EndedAreWhole};
 
 // Every lawful log keeps the law.
