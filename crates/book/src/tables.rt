@@ -144,7 +144,8 @@ impl Table {
         Ok(())
     }
 
-    // Adds a job and answers its number, or refuses and alters nothing.
+    // Adds a job and answers its number, or refuses and alters nothing. A check is added alike, but for one refusal and its number: one
+    // function for both would be handed both.
     pub(crate) fn add_job(&mut self, label: Label) -> Result<usize, Refusal>
         requires sound { Sound (plain self.old) }
         requires room { Roomy self.old }

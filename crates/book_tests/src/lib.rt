@@ -12,6 +12,7 @@ mod tests {
         answer.err().map(Refusal::number)
     }
 
+    // A call that adds a bound. The programs and tests that have one alike stand on other crates.
     fn bound(first: usize, second: usize, minutes: i32) -> Call {
         Call::AddBound(Bound {
             kind: Kind::Least,

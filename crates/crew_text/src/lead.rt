@@ -57,6 +57,7 @@ pub fn lead(heap: Global, text: &[u8], words: &[String]) -> Result<Vec<u8>, Allo
     let mut page = Page::new(heap);
     match outcomes(heap, words) {
         Ok(outcomes) => put_text(&mut page, heap, text, outcomes.as_slice())?,
+        // Each is put as one line here, and the first is in the contract.
         Err(Unsaid::TooMany) => page.push(b"too many outcomes: a plan has at most 4 checks\n")?,
         Err(Unsaid::NeitherYesNorNo) => page.push(b"an outcome is neither yes nor no\n")?,
         Err(Unsaid::NoMemory(e)) => return Err(e),

@@ -140,14 +140,11 @@ fn run(rt: &HostRuntime) -> anyhow::Result<()> {
     let mut minutes = [0i32; 10];
     let mut loops = [Origin::Start(0); 20];
     let mut table = [0i32; 2];
-    let rows = [Row {
-        held: 1,
-        count: 1,
-        alternatives: [Step {
-            place: 0,
-            minutes: 5,
-        }; 5],
-    }];
+    let step = Step {
+        place: 0,
+        minutes: 5,
+    };
+    let rows = [Row::one(1, step)];
     let Some(system) = listed(2, &rows) else {
         return Err(anyhow!("the rows are no rule system"));
     };

@@ -26,7 +26,7 @@ pub enum Refusal {
 }
 
 impl Refusal {
-    // The number by which a refusal is known.
+    // The number by which a refusal is known: one line for each such enum, since a trait would be longer.
     pub fn number(self) -> u8
         ensures { result ≡ number self }
     {

@@ -15,11 +15,7 @@ fn step(place: u16, minutes: i16) -> Step {
 
 // A rule of one alternative.
 fn one(held: u16, place: u16, minutes: i16) -> Row {
-    Row {
-        held,
-        count: 1,
-        alternatives: [step(place, minutes); 5],
-    }
+    Row::one(held, step(place, minutes))
 }
 
 // A rule of two alternatives.

@@ -23,7 +23,7 @@ pub enum FileFault {
 impl FileFault {
     ghost use Rattle.format.specs.Faults.{file_number};
 
-    // The number of the fault.
+    // The number of the fault: one line for each such enum, since a trait would be longer.
     pub fn number(self) -> u8
         ensures { result ≡ file_number self }
     {

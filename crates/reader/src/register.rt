@@ -6,7 +6,8 @@ use book::keeping::Book;
 use book::parts::Label;
 use format::parts::{NamePlace, Work};
 
-// The jobs entered so far: the book that holds them, and where their names stand in the text.
+// The jobs entered so far: the book that holds them, and where their names stand in the text. `Names` are those of a whole plan, so the
+// register, whose list still grows, has none.
 #[derive(Clone, Copy)]
 pub(crate) struct Register<'a> {
     pub(crate) text: &'a [u8],

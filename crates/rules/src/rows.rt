@@ -1,5 +1,5 @@
 // The rows that rules are stored in: small, since a system may have 8,192 of them.
-ghost use Rattle.std.specs.Prelude.{◌≡◌};
+ghost use Rattle.std.specs.Prelude.{◌≡◌, [], ◌∷◌};
 ghost use Rattle.rules.specs.Rows.{rule_of, step_of};
 
 use crate::parts::Alternative;
@@ -19,6 +19,20 @@ pub struct Row {
     pub held: u16,
     pub count: u8,
     pub alternatives: [Step; 5],
+}
+
+impl Row {
+    // The row of a rule with one alternative.
+    pub fn one(held: u16, step: Step) -> Row
+        ensures rule { rule_of result ≡ record { held = held; alternatives = step_of step ∷ [] } }
+        ensures count { result.count ≡ 1 }
+    {
+        Row {
+            held,
+            count: 1,
+            alternatives: [step; 5],
+        }
+    }
 }
 
 // What a row's alternative means.

@@ -36,13 +36,10 @@ fn case_row(hold: Hold, base: usize) -> Row
         place: (base + hold.by) as u16,
         minutes: hold.minutes as i16,
     };
-    Row {
-        held: (base + hold.held) as u16,
-        count: 1,
-        alternatives: [step; 5],
-    }
+    Row::one((base + hold.held) as u16, step)
 }
 
+// The two loops put other things into other tables; what they share is `due`.
 impl BookHolds<'_> {
     // The holds that are due in a case.
     pub(crate) fn due(&self, case: u8) -> HoldTable

@@ -69,11 +69,7 @@ impl Pair<'_> {
             place: place(self.book, self.other, j),
             minutes: 0,
         };
-        let mut row = Row {
-            held: place(self.book, self.case, j),
-            count: 1,
-            alternatives: [first; 5],
-        };
+        let mut row = Row::one(place(self.book, self.case, j), first);
         for c in 0..self.book.checks() {
             if self.told_apart(c) {
                 let step = Step {
