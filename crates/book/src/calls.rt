@@ -96,7 +96,7 @@ impl Book {
         self.table.label(j).meets(case)
     }
 
-    // Makes this book hold what another holds.
+    // Makes this book hold what another holds, in the room that it has: a clone would want memory.
     pub fn copy_from(&mut self, other: &Book)
         ensures { held self.new ≡ held other.now }
     {

@@ -201,7 +201,7 @@ impl Table {
         Ok(())
     }
 
-    // Makes the two lists hold what those of another table hold.
+    // Makes the two lists hold what those of another table hold, in the room that they have: a clone would want memory.
     pub(crate) fn copy_from(&mut self, other: &Table)
         requires sound { Sound (plain other.now) }
         requires room { Roomy self.old }

@@ -30,7 +30,8 @@ fn put_plan(
     }
 }
 
-// Puts the run of a plan text, or its fault. A plan file has room for 99 names.
+// Puts the run of a plan text, or its fault. A plan file has room for 99 names. The sheet begins alike and differs in each arm; a function
+// for both would have to lend the book and the places to what it is given.
 fn put_text(
     page: &mut Page,
     heap: Global,

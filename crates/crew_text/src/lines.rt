@@ -1,4 +1,5 @@
-// The lines that a crew reads, each put at the end of a page, which is a parameter as the formatter of a `fmt` is.
+// The lines that a crew reads, each put at the end of a page, which is a parameter as the formatter of a `fmt` is. No Display has them:
+// names are bytes of the plan text.
 use format::names::{Names, Plan};
 use page::Page;
 use runs::ending::Walked;

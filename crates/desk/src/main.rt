@@ -16,7 +16,7 @@ use std::alloc::Global;
 use std::io;
 use walks::parts::Event;
 
-// A request that adds a bound.
+// A request that adds a bound. The tests of the book and the worked plan have a call alike, on other crates.
 fn bound(kind: Kind, first: usize, second: usize, minutes: i32) -> Request {
     Request::Book(Call::AddBound(Bound {
         kind,

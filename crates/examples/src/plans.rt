@@ -9,7 +9,7 @@ use book::list::carry_out;
 use book::parts::{Bound, Call, Kind, Label};
 use std::alloc::{AllocError, Global};
 
-// The call that adds a bound.
+// The call that adds a bound. Programs and tests that have one alike stand on other crates.
 fn bound(kind: Kind, first: usize, second: usize, minutes: i32) -> Call
     ensures { result ≡ AddBound (record { kind = kind; first = first; second = second; minutes = minutes }) }
 {

@@ -27,6 +27,7 @@ impl Barred {
         let table = &self.table;
         let mut seen = [None; PLACES];
         let mut place = self.place;
+        // By number, since the places come in the order of the walk.
         for n in 0..PLACES + 1 {
             if let Some(from) = seen[place] {
                 return &walked[from..n];

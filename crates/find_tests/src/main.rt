@@ -51,6 +51,7 @@ fn bound(origin: Origin) -> usize {
 
 // What `find_or_loop` says, with the first two rules of a loop and what follows.
 fn explain(rt: HostRuntime, system: &Listed) -> io::Result<()> {
+    // Two lists, as the search is lent.
     let mut minutes = [7i32; 320];
     let mut origins = [Origin::Start(0); 320];
     match find_or_loop(system, &mut minutes, &mut origins) {
@@ -130,7 +131,7 @@ fn many(rt: HostRuntime) -> io::Result<()> {
     both(rt, "320 places", 320, &rows)
 }
 
-// The number of a refusal.
+// The number of a refusal. The tests of the book have one alike, over the book's refusals.
 fn refused(answer: Result<Explained, Refusal>) -> Option<u8> {
     answer.err().map(Refusal::number)
 }
@@ -140,6 +141,7 @@ fn ends(rt: HostRuntime) -> io::Result<()> {
     let Some(system) = listed(2, &[one(1, 0, 30)]) else {
         return println!(rt; "not sound");
     };
+    // Lists of other lengths, as the search is lent.
     let mut minutes = [7i32; 1];
     let mut enough = [7i32; 2];
     let mut origins = [Origin::Start(0); 1];

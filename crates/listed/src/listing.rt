@@ -14,7 +14,7 @@ use rules::table::RuleTable;
 // Places, and the rules of numbered rows over them.
 pub type Listed = Collected<Numbered, 8192>;
 
-// A table of these rows with their numbers.
+// A table of these rows with their numbers, filled by a `for`: `extend` answers an error for a table that is full.
 fn numbered(rows: &[Row]) -> RuleTable<Numbered, 8192>
     requires few { length rows.now ≤ 8192 }
     ensures { result ≡ with_numbers 0 rows.now }

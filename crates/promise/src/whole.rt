@@ -1,4 +1,4 @@
-// The whole of the planner in one call.
+// The whole of the planner in one call. The lists are a caller's, filled in part, so they stay parameters.
 ghost use Rattle.std.specs.Prelude.{◌≡◌, MatchResult};
 ghost use Rattle.promise.specs.Whole.{Promise};
 

@@ -25,7 +25,7 @@ pub(crate) fn natural(word: &[u8], most: usize) -> Option<u32>
     Some(value)
 }
 
-// The minutes that a word writes, with a minus sign before them or none.
+// The minutes that a word writes, with a minus sign before them or none. `parse` would take what is no minutes here, as above.
 pub(crate) fn minutes(word: &[u8]) -> Option<i32>
     ensures { result ≡ minutes_of word.now }
 {

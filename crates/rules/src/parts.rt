@@ -18,7 +18,7 @@ pub enum Origin {
     Check(usize, usize),
 }
 
-// What a list of origins has where none was written yet.
+// What a list of origins has where none was written yet. By hand, since a derive takes no case with a value.
 impl Default for Origin {
     ghost is_default = { λ o. o ≡ Start 0 };
 

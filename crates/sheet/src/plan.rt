@@ -1,4 +1,4 @@
-// The sheet of a plan that was read.
+// The sheet of a plan that was read. The lists are those that the verdicts are lent, so they are arrays beside one another.
 ghost use Rattle.std.specs.Prelude.{OnOk};
 ghost use Rattle.book.specs.Held.{held};
 ghost use Rattle.format.specs.Named.{name};

@@ -1,5 +1,6 @@
 // The holds of a book, collected in their order: one function for each kind of hold takes the book and the table; a struct of these two
-// would only rename them. Tables are filled by a `for`, here and in the modules beside: `extend` fails at a full table, which is none here.
+// would only rename them. Tables are filled by a `for`, here and in the modules beside: `extend` would answer an error for a full table, and a full
+// table is no error here.
 ghost use Rattle.std.specs.Prelude.{◌≡◌, ◌<◌, pos, neg_ℤ, ◌≤ℤ◌};
 ghost use Rattle.book.specs.Plain.{asking, job};
 ghost use Rattle.book.specs.Held.{held};

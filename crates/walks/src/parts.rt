@@ -23,7 +23,8 @@ pub enum Event {
     Reported(Report),
 }
 
-// The telling of no job at minute 0: a list of fixed room holds it where it has no event yet.
+// The telling of no job at minute 0: a list of fixed room holds it where it has no event yet. By hand, since a derive takes no case with a
+// value.
 impl Default for Event {
     ghost is_default = { λ e. e ≡ Told (record { minute = 0; jobs = 0 }) };
 
