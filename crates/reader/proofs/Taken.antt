@@ -1,6 +1,6 @@
 -- What a line that is taken in a section leaves behind, and what one with a fault does.
 use Rattle.std.proofs.Common.{◌≡◌, ℕ, zero, suc, false, ◌+◌, ◌-◌, ◌≤◌, List, [], ◌∷◌, ◌++◌, length, map, Some, None, Ok, Err, codes, Option, Result}
-use Rattle.std.proofs.Common.{slice_set, sym, refl, ap, ◌∙◌, arith}
+use Rattle.std.proofs.Common.{Bool, true, slice_set, sym, refl, ap, ◌∙◌, arith}
 use Rattle.std.proofs.lemmas.Bool.{le-leb}
 use Rattle.std.proofs.lemmas.List.{append-nil, length-append}
 use Rattle.book.specs.declared.parts.Bound.{Bound}
@@ -14,20 +14,24 @@ use Rattle.format.specs.declared.parts.Work.{Work}
 use Rattle.format.specs.declared.parts.Work.TheVariants.{Job, Check}
 use Rattle.format.specs.declared.parts.Fault.{Fault}
 use Rattle.format.specs.declared.parts.NamePlace.{NamePlace}
-use Rattle.format.specs.Format.{JobLine, BoundLine, want_word, work_word, kind_word, job_words}
+use Rattle.format.specs.Format.{Known, same, JobLine, BoundLine, want_word, work_word, kind_word, job_words}
 use Rattle.format.specs.Entered.{add, call_job, label_in}
-use Rattle.format.specs.Faults.{booked, cut, line_name, if_work, work_of, count_of, jobs_count, job_line, bound_line, job_of, bound_of, Reading}
+use Rattle.format.specs.declared.parts.FileFault.TheVariants.{WrongLine}
+use Rattle.format.specs.Faults.{fault_at, kind_of, booked, cut, line_name, if_work, work_of, count_of, jobs_count, job_line}
+use Rattle.format.specs.Faults.{bound_line, job_of, bound_of, Reading}
 use Rattle.format.specs.Faults.{with_job_line, with_bound_line}
+use Rattle.format.proofs.Words.{same_decides}
 use Rattle.format.proofs.Steps.{no_fault, no_ok, same_err, then_is, then_no}
 use Rattle.format.proofs.Cuts.{joined, joined_cut}
-use Rattle.format.proofs.Lines.{work_complete, job_sound, bound_sound, count_sound}
+use Rattle.format.proofs.Lines.{work_sound, work_complete, kind_sound, job_sound, bound_sound, count_sound}
 use Rattle.reader.specs.declared.piece.Piece.{Piece}
 use Rattle.reader.specs.declared.register.Entry.{Entry}
 use Rattle.reader.specs.declared.state.Section.{Section}
 use Rattle.reader.specs.declared.state.Section.TheVariants.{Top, Jobs, Bounds}
 use Rattle.reader.specs.Pieces.{Lies}
 use Rattle.reader.specs.Names.{slice, known_by, Stands}
-use Rattle.reader.specs.Says.{words_of, JobSaid, BoundSaid}
+use Rattle.reader.specs.declared.lines.Head.TheVariants.{JobCount, OneJob, BoundCount, OneBound}
+use Rattle.reader.specs.Says.{head_of, words_of, JobSaid, BoundSaid}
 use Rattle.reader.specs.Going.{Holds, Due, Taken, Faulty, finished, heard, reached}
 use Rattle.reader.proofs.Pieces.{part_of}
 use Rattle.reader.proofs.Entered.{JobEntered, BoundEntered, one_more, same_room, stands_after, jobs_stay, bound_stands}
@@ -234,3 +238,82 @@ module _ (text : List ℕ) (p : Piece) (ns : List NamePlace) (o : Plain) (x : Bo
         noted = refl;
         says = λ t h. then_no (bound_of t.known t.book p.line p.byte (words_of p)) _ _ (bound_says t h y);
       }
+
+-- what begins with another word is no line that says a count, enters a job or sets a bound
+no_count : (key : List ℕ) (l b : ℕ) (w : List ℕ) (ws : List (List ℕ)) → same w key ≡ false → count_of key l b (w ∷ ws) ≡ Err (fault_at WrongLine l b)
+no_count key l b w [] e = refl
+no_count key l b w (v ∷ []) e = rw e refl
+no_count key l b w (v ∷ (u ∷ us)) e = refl
+
+no_job : (ks : List Known) (l b : ℕ) (w : List ℕ) (ws : List (List ℕ)) → work_of w ≡ None → job_line ks l b (w ∷ ws) ≡ Err (fault_at WrongLine l b)
+no_job ks l b w [] e = refl
+no_job ks l b w (v ∷ vs) e = rw e refl
+
+no_bound : (ks : List Known) (l b : ℕ) (w : List ℕ) (ws : List (List ℕ)) → kind_of w ≡ None → bound_line ks l b (w ∷ ws) ≡ Err (fault_at WrongLine l b)
+no_bound ks l b w [] e = refl
+no_bound ks l b w (v ∷ []) e = refl
+no_bound ks l b w (v ∷ (u ∷ [])) e = refl
+no_bound ks l b w (v ∷ (u ∷ (t ∷ []))) e = rw e refl
+no_bound ks l b w (v ∷ (u ∷ (t ∷ (r ∷ rs)))) e = refl
+
+-- a word of another head is none of those that have this one
+other_word : (key w : List ℕ) → (head_of w ≡ head_of key → ⊥) → same w key ≡ false
+other_word key w unlike = go (same w key) refl
+  where
+    go : (t : Bool) → same w key ≡ t → same w key ≡ false
+    go true d = absurd (unlike (ap head_of ((same_decides w key).0 d)))
+    go false d = d
+
+work_head : (k : Work) → head_of (work_word k) ≡ OneJob
+work_head Job = refl
+work_head Check = refl
+
+other_work : (w : List ℕ) → (head_of w ≡ OneJob → ⊥) → work_of w ≡ None
+other_work w unlike = go (work_of w) refl
+  where
+    go : (r : Option Work) → work_of w ≡ r → work_of w ≡ None
+    go (Some k) e = absurd (unlike (ap head_of (work_sound w k e) ∙ work_head k))
+    go None e = e
+
+kind_head : (k : Kind) → head_of (kind_word k) ≡ OneBound
+kind_head Least = refl
+kind_head Most = refl
+
+other_kind : (w : List ℕ) → (head_of w ≡ OneBound → ⊥) → kind_of w ≡ None
+other_kind w unlike = go (kind_of w) refl
+  where
+    go : (r : Option Kind) → kind_of w ≡ r → kind_of w ≡ None
+    go (Some k) e = absurd (unlike (ap head_of (kind_sound w k e) ∙ kind_head k))
+    go None e = e
+
+-- the count of bounds is no job
+pub unlike_heads : BoundCount ≡ OneJob → ⊥
+unlike_heads e = cc
+
+-- a line that does not begin as its section has it
+module _ (text : List ℕ) (p : Piece) (ns : List NamePlace) (o : Plain) (w : List ℕ) (ws : List (List ℕ)) (front : words_of p ≡ w ∷ ws) where
+  stray : (x : Section) → ((s : Reading) → heard (length ns) x s p.line p.byte (w ∷ ws) ≡ Err (fault_at WrongLine p.line p.byte))
+      → Faulty text p x ns o (fault_at WrongLine p.line p.byte) ns o
+  stray x h = record { book = refl; noted = refl; says = λ s k. rw front (h s) }
+
+  pub stray_at_top : (head_of w ≡ JobCount → ⊥) → Faulty text p Top ns o (fault_at WrongLine p.line p.byte) ns o
+  stray_at_top unlike =
+      let e = no_count (codes "jobs") p.line p.byte w ws (other_word (codes "jobs") w unlike) in
+      stray Top (λ s. then_no (jobs_count (length ns) p.line p.byte (w ∷ ws)) _ _ (then_no (count_of (codes "jobs") p.line p.byte (w ∷ ws)) _ _ e))
+
+  pub stray_in_jobs : (n : ℕ) → (n ≡ 0 → head_of w ≡ BoundCount → ⊥) → (1 ≤ n → head_of w ≡ OneJob → ⊥)
+      → Faulty text p (Jobs n) ns o (fault_at WrongLine p.line p.byte) ns o
+  stray_in_jobs zero last more =
+      let e = no_count (codes "bounds") p.line p.byte w ws (other_word (codes "bounds") w (last refl)) in
+      stray (Jobs 0) (λ s. then_no (count_of (codes "bounds") p.line p.byte (w ∷ ws)) _ _ e)
+  stray_in_jobs (suc k) last more =
+      let e = other_work w (more (omega arith)) in
+      stray (Jobs (suc k)) (λ s. then_no (job_of s.known s.book p.line p.byte (w ∷ ws)) _ _
+      (then_no (job_line s.known p.line p.byte (w ∷ ws)) _ _ (no_job s.known p.line p.byte w ws e)))
+
+  pub stray_in_bounds : (n : ℕ) → 1 ≤ n → (head_of w ≡ OneBound → ⊥) → Faulty text p (Bounds n) ns o (fault_at WrongLine p.line p.byte) ns o
+  stray_in_bounds zero some unlike = absurd (omega arith)
+  stray_in_bounds (suc k) some unlike =
+      let e = other_kind w unlike in
+      stray (Bounds (suc k)) (λ s. then_no (bound_of s.known s.book p.line p.byte (w ∷ ws)) _ _
+      (then_no (bound_line s.known p.line p.byte (w ∷ ws)) _ _ (no_bound s.known p.line p.byte w ws e)))

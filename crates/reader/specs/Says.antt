@@ -1,12 +1,14 @@
 -- What lines and their words say.
-use Rattle.std.specs.Prelude.{◌≡◌, ℕ, List, [], ◌∷◌, Some, None, Ok, Option, Result}
+use Rattle.std.specs.Prelude.{◌≡◌, ℕ, List, [], ◌∷◌, Some, None, Ok, Option, Result, cond, codes, is_some}
 use Rattle.book.specs.declared.parts.Bound.{Bound}
 use Rattle.book.specs.declared.parts.Label.{Label}
 use Rattle.book.specs.Held.{held}
 use Rattle.format.specs.declared.parts.Fault.{Fault}
-use Rattle.format.specs.Format.{Known, JobLine, BoundLine, check_number}
+use Rattle.format.specs.Format.{Known, JobLine, BoundLine, check_number, same}
 use Rattle.format.specs.Entered.{or_zero, wanting, label_from, label_in, bound_in}
-use Rattle.format.specs.Faults.{then, cut, count_of, new_name, job_named, want_of, wants_of, job_line, bound_line, line_name}
+use Rattle.format.specs.Faults.{then, cut, count_of, new_name, job_named, want_of, wants_of, job_line, bound_line, line_name, work_of, kind_of}
+use Rattle.reader.specs.declared.lines.Head.{Head}
+use Rattle.reader.specs.declared.lines.Head.TheVariants.{JobCount, OneJob, BoundCount, OneBound, Unknown}
 use Rattle.reader.specs.declared.piece.Piece.{Piece}
 use Rattle.reader.specs.declared.register.Register.{Register}
 use Rattle.reader.specs.declared.register.Entry.{Entry}
@@ -34,6 +36,12 @@ module _ (ks : List Known) (w : Piece) where
 
   abbrev pub want_at : Label → Result Label Fault
   want_at label = want_in label ks w.line w.byte w.bytes.now
+
+-- what a line is by its first word
+abbrev pub head_of : List ℕ → Head
+head_of w =
+    cond (same w (codes "jobs")) JobCount (cond (same w (codes "bounds")) BoundCount
+    (cond (is_some (work_of w)) OneJob (cond (is_some (kind_of w)) OneBound Unknown)))
 
 -- what a line says where it stands
 abbrev pub words_of : Piece → List (List ℕ)

@@ -5,7 +5,7 @@ ghost use Rattle.book.specs.Plain.{empty_label};
 ghost use Rattle.format.specs.Format.{job_number, check_number};
 ghost use Rattle.format.specs.Entered.{wanting as wanted};
 ghost use Rattle.format.specs.Faults.{work_of, kind_of, sign_of};
-ghost use Rattle.reader.specs.Says.{knows, count_at, new_name_at, job_at, want_at, labelled};
+ghost use Rattle.reader.specs.Says.{head_of, knows, count_at, new_name_at, job_at, want_at, labelled};
 ghost use Rattle.reader.specs.Says.{job_line_at, bound_line_at, JobSaid, BoundSaid};
 
 use crate::names::{job_number, reserved};
@@ -29,6 +29,33 @@ pub(crate) fn count(line: Piece, key: &[u8]) -> Result<usize, Fault>
     }
     let n = natural(number.bytes, 2).ok_or(number.fault(FileFault::NotANumber))?;
     Ok(n as usize)
+}
+
+// What a line can be: the count of jobs, a job or a check, the count of bounds, a bound, or no line of a plan.
+#[derive(Clone, Copy)]
+pub(crate) enum Head {
+    JobCount,
+    OneJob,
+    BoundCount,
+    OneBound,
+    Unknown,
+}
+
+// What a line is, by its first word.
+pub(crate) fn head_of(word: &[u8]) -> Head
+    ensures { result ≡ head_of word.now }
+{
+    if word == b"jobs".as_slice() {
+        Head::JobCount
+    } else if word == b"bounds".as_slice() {
+        Head::BoundCount
+    } else if work_of(word).is_some() {
+        Head::OneJob
+    } else if kind_of(word).is_some() {
+        Head::OneBound
+    } else {
+        Head::Unknown
+    }
 }
 
 // What a word enters. One function for this table and the two below would be longer, with a table as its argument.

@@ -8,7 +8,7 @@ ghost use Rattle.reader.specs.Going.{Begun, Due, Taken, Faulty, LineThere, NoLin
 ghost use Rattle.reader.specs.Pieces.{Lies};
 ghost use Rattle.format.specs.declared.parts.FileFault.TheVariants.{TooLong};
 
-use crate::lines::count;
+use crate::lines::{Head, count, head_of};
 use crate::piece::Piece;
 use crate::place::{Unread, fault};
 use crate::register::{Entry, Register};
@@ -68,8 +68,8 @@ impl<'a> Reader<'a> {
         Ok(line)
     }
 
-    // Enters what a line says, or alters nothing. The book and the name list are lent and altered, so they stay parameters. The section is
-    // where the text has got to, so a match tells plainest what each line does.
+    // Enters what a line says, or alters nothing: what it may be depends on the section and its first word. The book and the name list are
+    // lent and altered, so they stay parameters.
     fn take(
         &mut self,
         line: Piece<'a>,
@@ -93,30 +93,32 @@ impl<'a> Reader<'a> {
             names: &*names,
             book: &*book,
         };
-        match self.section {
-            Section::Top => {
+        let (first, _) = line.part(b' ');
+        match (self.section, head_of(first.bytes)) {
+            (Section::Top, Head::JobCount) => {
                 let jobs = count(line, b"jobs")?;
                 if jobs > names.len() {
                     return Err(line.fault(FileFault::NamesShort));
                 }
                 self.section = Section::Jobs(jobs);
             }
-            Section::Jobs(0) => {
+            (Section::Jobs(due), Head::BoundCount) if due == 0 => {
                 let bounds = count(line, b"bounds")?;
                 self.section = Section::Bounds(bounds);
             }
-            Section::Jobs(due) => {
+            (Section::Jobs(due), Head::OneJob) if due > 0 => {
                 let entry = register.entry(line)?;
                 let place = book.jobs().len() - 1;
                 line.booked(enter(book, entry))?;
                 names[place] = entry.name;
                 self.section = Section::Jobs(due - 1);
             }
-            Section::Bounds(due) => {
+            (Section::Bounds(due), Head::OneBound) => {
                 let bound = register.bound(line)?;
                 line.booked(book.add_bound(bound))?;
                 self.section = Section::Bounds(due - 1);
             }
+            _ => return Err(line.fault(FileFault::WrongLine)),
         }
         Ok(())
     }
