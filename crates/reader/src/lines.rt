@@ -41,7 +41,7 @@ pub(crate) enum Head {
     Unknown,
 }
 
-// What a line is, by its first word.
+// What a line is, by its first word. A match on the words was tried, and its proof did not close.
 pub(crate) fn head_of(word: &[u8]) -> Head
     ensures { result ≡ head_of word.now }
 {
