@@ -1,6 +1,7 @@
 // Reads a text line by line.
 ghost use Rattle.std.specs.Prelude.{◌≡◌, false, length, MatchResult, OnErr};
 ghost use Rattle.book.specs.Held.{held};
+ghost use Rattle.book.specs.Plain.{new_book};
 ghost use Rattle.format.specs.Entered.{add};
 ghost use Rattle.format.specs.Faults.{fault_at};
 ghost use Rattle.reader.specs.Names.{Stands};
@@ -130,9 +131,9 @@ impl<'a> Reader<'a> {
         matches!(self.section, Section::Bounds(0))
     }
 
-    // Reads on to the end of the text.
+    // Reads on to the end of the text, into a new book.
     fn run(&mut self, book: &mut Book, names: &mut [NamePlace]) -> Result<(), Fault>
-        requires stands { Stands self.old.text.now names.old (held book.old) }
+        requires fresh { held book.old ≡ new_book }
         requires due { Due (length names.old) self.old.section (length (held book.old).jobs) }
     {
         while !self.done() {
