@@ -1,11 +1,11 @@
 -- The book and the name list after a line.
 use Rattle.std.proofs.Common.{◌≡◌, ℕ, ◌+◌, ◌-◌, ◌<◌, ◌≤◌, List, [], ◌∷◌, ◌++◌, length, take, Some, None, Ok, Option, sym, refl, ap, ◌∙◌}
 use Rattle.std.proofs.Common.{subst, ⊎_elim, arith, slice_set}
-use Rattle.std.proofs.lemmas.List.{take_more_set, length_push, length-set, get_or_append_left, get_or_push}
+use Rattle.std.proofs.lemmas.List.{take_more_set, length_push, length-set, get_or_append_left, get_or_push, length-take-le}
 use Rattle.std.proofs.lemmas.Bool.{cases_lt}
 use Rattle.book.specs.declared.parts.Label.{Label}
 use Rattle.book.specs.declared.parts.Refusal.{Refusal}
-use Rattle.book.specs.Plain.{Plain, unless, job_refusal, check_refusal, bound_refusal, add_bound, checks, with_job, with_bound}
+use Rattle.book.specs.Plain.{Plain, unless, job_refusal, check_refusal, bound_refusal, add_bound, checks, with_job, with_bound, new_book}
 use Rattle.book.specs.declared.parts.Bound.{Bound}
 use Rattle.book.specs.Sound.{Sound}
 use Rattle.format.specs.declared.parts.Work.{Work}
@@ -103,3 +103,7 @@ module _ (text : List ℕ) (l b : ℕ) (ws : List (List ℕ)) (ns : List NamePla
     bound_stands =
         let n = ap length jobs_stay in
         record { room = omega (arith, n, h.room); placed = subst (λ k. Placed text (take (k - 1) ns)) (sym n) h.placed }
+
+-- a new book has no name to hold
+pub new_stands : (text : List ℕ) (ns : List NamePlace) → Stands text ns new_book
+new_stands text ns = record { room = omega arith; placed = λ i h. absurd (omega (arith, length-take-le 0 ns (omega arith))) }

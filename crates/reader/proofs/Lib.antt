@@ -1,6 +1,6 @@
 pub mod Pieces
-mod Naming
+pub mod Naming
 mod Spoken
-mod Entered
+pub mod Entered
 mod Known
 mod Taken
