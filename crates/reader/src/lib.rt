@@ -8,7 +8,8 @@ pub mod place;
 pub mod reading;
 mod register;
 mod scan;
-mod state;
+pub mod section;
+pub mod state;
 mod words;
 
 pub use crate::place::Unread;

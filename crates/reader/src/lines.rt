@@ -33,7 +33,7 @@ pub(crate) fn count(line: Piece, key: &[u8]) -> Result<usize, Fault>
 
 // What a line can be: the count of jobs, a job or a check, the count of bounds, a bound, or no line of a plan.
 #[derive(Clone, Copy)]
-pub(crate) enum Head {
+pub enum Head {
     JobCount,
     OneJob,
     BoundCount,

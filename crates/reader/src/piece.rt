@@ -7,7 +7,7 @@ use format::parts::{Fault, FileFault};
 
 // A piece of a text: its bytes, the line that it begins on, and the place of its first byte.
 #[derive(Clone, Copy)]
-pub(crate) struct Piece<'a> {
+pub struct Piece<'a> {
     pub(crate) bytes: &'a [u8],
     pub(crate) line: usize,
     pub(crate) byte: usize,

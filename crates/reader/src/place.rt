@@ -3,6 +3,7 @@ ghost use Rattle.std.specs.Prelude.{◌≡◌};
 ghost use Rattle.format.specs.Faults.{fault_at};
 ghost use Rattle.reader.specs.declared.place.Unread.TheVariants.{NoMemory as Memoryless, Fault as Faulty};
 
+pub use crate::piece::Piece as Line;
 use format::parts::{Fault, FileFault, Reason};
 use std::alloc::AllocError;
 

@@ -5,7 +5,7 @@ use crate::piece::Piece;
 
 // The section reached, and how many of its lines are still due.
 #[derive(Clone, Copy)]
-pub(crate) enum Section {
+pub enum Section {
     Top,
     Jobs(usize),
     Bounds(usize),
@@ -13,7 +13,7 @@ pub(crate) enum Section {
 
 // What is left of a text, and the section reached.
 #[derive(Drop)]
-pub(crate) struct Reader<'a> {
+pub struct Reader<'a> {
     pub(crate) text: &'a [u8],
     pub(crate) rest: Piece<'a>,
     pub(crate) section: Section,
