@@ -1,7 +1,7 @@
 -- The pieces of a text.
 use Rattle.std.proofs.Common.{◌≡◌, ℕ, ◌+◌, ◌<◌, ◌≤◌, Bool, true, false, cond, eqb, ◌⊎◌, List, [], ◌∷◌, ◌++◌, length, take, drop, ltb, not, Some, None}
 use Rattle.std.proofs.Common.{Option, MatchOption, sym, refl, ap, ◌∙◌, arith}
-use Rattle.std.proofs.lemmas.List.{length-append, take-take, drop-take, drop-drop}
+use Rattle.std.proofs.lemmas.List.{length-append, length-drop, take_all, take-take, drop-take, drop-drop}
 use Rattle.std.proofs.Math.Seq.{take-append_seam, drop-append_seam}
 use Rattle.reader.specs.declared.piece.Piece.{Piece}
 use Rattle.reader.specs.Pieces.{Lies, Parted}
@@ -74,6 +74,10 @@ part_of text a z b e =
           ∙ (drop-take (length a) (length z) (drop b text) ∙ ap (take (length z)) (drop-drop (length a) b text))),
     )
 
+-- a piece that ends where a text does is all of it from a byte on
+pub to_end : (text : List ℕ) (p : Piece) → Lies text p → p.byte + length p.bytes.now ≡ length text → p.bytes.now ≡ drop p.byte text
+to_end text p h e = h.there ∙ take_all (length p.bytes.now) (drop p.byte text) (omega (arith, e, length-drop p.byte text))
+
 module _ (c : ℕ) (text : List ℕ) (whole front : Piece) where
   -- the front of a piece lies where the piece does
   pub lies_front : (rest : Option Piece) → Lies text whole → Parted c whole front rest → Lies text front
@@ -95,3 +99,8 @@ module _ (c : ℕ) (text : List ℕ) (whole front : Piece) where
         omega (arith, h.within, p.after.byte, ap length p.after.all, length-append front.bytes.now (c ∷ rest.bytes.now)),
         rw p.after.byte r.1,
       )
+
+  -- which ends where the piece does
+  pub ends_rest : (rest : Piece) → Parted c whole front (Some rest)
+      → rest.byte + length rest.bytes.now ≡ whole.byte + length whole.bytes.now
+  ends_rest rest p = omega (arith, p.after.byte, ap length p.after.all, length-append front.bytes.now (c ∷ rest.bytes.now))

@@ -1,4 +1,5 @@
 // Where a reader stands.
+ghost use Rattle.std.specs.Prelude.{◌≡◌, ◌+◌, length};
 ghost use Rattle.reader.specs.Pieces.{Lies};
 
 use crate::piece::Piece;
@@ -11,11 +12,12 @@ pub enum Section {
     Bounds(usize),
 }
 
-// What is left of a text, and the section reached.
+// What is left of a text, all of it from some byte on, and the section reached.
 #[derive(Drop)]
 pub struct Reader<'a> {
     pub(crate) text: &'a [u8],
     pub(crate) rest: Piece<'a>,
     pub(crate) section: Section,
     ghost lies: { Lies text.now rest },
+    ghost ends: { rest.byte + length rest.bytes.now ≡ length text.now },
 }
