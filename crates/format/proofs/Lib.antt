@@ -6,5 +6,6 @@ pub mod Lines
 pub mod Inks
 pub mod Sound
 mod Complete
+mod Placed
 pub mod OnLine
 mod Local

@@ -5,7 +5,8 @@ use Rattle.format.specs.declared.parts.Reason.TheVariants.{File}
 use Rattle.format.specs.declared.parts.Fault.{Fault}
 use Rattle.format.specs.Format.{PlanText, WellFormed, written, Every, at_first, after_all}
 use Rattle.format.specs.Entered.{BookTakes, book_of}
-use Rattle.format.specs.Faults.{Reading, fault, outcome}
+use Rattle.format.specs.Faults.{Reading, fault, outcome, names_of}
+use Rattle.format.specs.Names.{AllNamesIn}
 
 -- what reading a plan gives: its jobs by name and the book that it sets down
 abbrev pub reading_of : PlanText → Reading
@@ -27,6 +28,11 @@ ReadsPlans = (room : ℕ) (bytes : List ℕ) (s : Reading) → outcome room byte
 -- two plans have two texts
 abbrev pub OnePlan : Type 0
 OnePlan = (room : ℕ) (bytes : List ℕ) (p q : PlanText) → Writes room bytes p → Writes room bytes q → p ≡ q
+
+-- the names of a plan that is read stand in its text, one for each job but `start`
+abbrev pub NamesStand : Type 0
+NamesStand = (room : ℕ) (text : List ℕ) (s : Reading) → outcome room text ≡ Ok s
+    → AllNamesIn text (names_of text) × (length s.book.jobs ≡ suc (length (names_of text)))
 
 -- a line without a line feed in it, and lines with a line feed after each
 abbrev pub Line : List ℕ → Type 0

@@ -1,6 +1,6 @@
 // What holds of every text, named so that the check covers it.
 // A theorem is the contract of a function with no parameter that answers 0, a rule of the project.
-ghost use Rattle.format.specs.Theorems.{ReadsExactly, ReadsPlans, OnePlan, FaultsByLines, FirstFault, LinesBefore};
+ghost use Rattle.format.specs.Theorems.{ReadsExactly, ReadsPlans, OnePlan, NamesStand, FaultsByLines, FirstFault, LinesBefore};
 ghost use Rattle.format.specs.Example.{FaultsMet};
 
 // A text is read as a plan exactly when it is the writing-out of that plan, which is well formed and which the book takes.
@@ -20,6 +20,13 @@ pub fn reads_plans() -> u8
 // Two plans have two texts.
 pub fn one_plan() -> u8
     ensures { OnePlan }
+{
+    0
+}
+
+// The names of a plan that is read stand in its text, one for each job but `start`.
+pub fn names_stand() -> u8
+    ensures { NamesStand }
 {
     0
 }

@@ -1,5 +1,3 @@
--- Set aside from crates/sheet/proofs: that the names of a plan that is read stand in its text, which no contract cites yet.
--- It was written when specs/Sheet.antt had `Named text places n`: n is at most one more than the places, and each below n is a NameIn.
 -- The names of a plan that is read: there is one for each job but `start`, it stands in the text, and it has at most 8 letters.
 use Rattle.std.proofs.Common.{◌≡◌, ℕ, zero, suc, ◌+◌, ◌<◌, ◌≤◌, List, [], ◌∷◌, ◌++◌, map, length, get_or, Some, None, Ok, codes, decimal}
 use Rattle.std.proofs.Common.{Option, sym, refl, ap, ◌∙◌, subst, append-nil, add-one, arith, length-append}
@@ -21,7 +19,7 @@ use Rattle.format.specs.Faults.{Reading, outcome, cut, work_of, if_work, line_na
 use Rattle.format.proofs.Cuts.{cut_spaced, cut_ended}
 use Rattle.format.proofs.Inks.{Inky, jobs_inky, bounds_inky, job_inky, bound_inky, count_inky, frees, free_lines, all_jobs, all_bounds}
 use Rattle.format.proofs.Sound.{pieces, read_sound}
-use Rattle.sheet.specs.Sheet.{no_place, Named}
+use Rattle.format.specs.Names.{no_place, AllNamesIn}
 
 -- where the names of the job lines stand, the first line beginning at byte b
 abbrev pub places : ℕ → List JobLine → List NamePlace
@@ -122,7 +120,8 @@ ended_append (x ∷ xs) ys =
     let more = ended_append xs ys in
     omega (arith, more, length-append (spaced x) (10 ∷ ended (xs ++ ys)), length-append (spaced x) (10 ∷ ended xs))
 
-pub all_named : (room : ℕ) (p : PlanText) → WellFormed room p → Named (written p) (names_of (written p)) (suc (length p.jobs))
+pub all_named : (room : ℕ) (p : PlanText) → WellFormed room p →
+    AllNamesIn (written p) (names_of (written p)) × (length (names_of (written p)) ≡ length p.jobs)
 all_named room p w =
     let js = p.jobs in
     let head = spaced (count_words (codes "jobs") (length js)) in
@@ -131,11 +130,10 @@ all_named room p w =
     let long = places_long js (first_job p) in
     let text = length-append head (10 ∷ ended (map job_words js ++ tail)) in
     let split = ended_append (map job_words js) tail in
-    rw (names_are room p w)
-    (record {
-      enough = omega arith;
-      each = λ i h. let q = place_in js (first_job p) at_first i w.jobs_good (omega arith) in record { within = omega (arith, q.1); short = q.0 };
-    })
+    rw (names_are room p w) (
+      λ i h. let q = place_in js (first_job p) at_first i w.jobs_good (omega arith) in record { within = omega (arith, q.1); short = q.0 },
+      long,
+    )
 
 -- the book has `start` and a job for each job line
 taken : {A : Type 0} (o : Option Refusal) (a : A) (after before : Plain) → Accepts (unless o a after before).answer → (unless o a after before).after ≡ after
@@ -173,15 +171,12 @@ jobs_counted p h =
     omega (arith, jobs, bounds_same p.bounds known (book_after_jobs at_first new_book p.jobs))
 
 -- the names of a text that is read: one for each job but `start`
-pub names_counted : (room : ℕ) (text : List ℕ) (s : Reading) → outcome room text ≡ Ok s
-    → Named text (names_of text) (length s.book.jobs) × (length s.book.jobs ≡ suc (length (names_of text)))
+pub names_counted : (room : ℕ) (text : List ℕ) (s : Reading) → outcome room text ≡ Ok s →
+    AllNamesIn text (names_of text) × (length s.book.jobs ≡ suc (length (names_of text)))
 names_counted room text s e =
     let r = read_sound room text s e in
     let p = r.plan in
-    let w = r.writes.well_formed in
     let jobs : length s.book.jobs ≡ suc (length p.jobs) = ap (λ x. length x.book.jobs) (sym r.is) ∙ jobs_counted p r.writes.taken in
-    let count : length (names_of (written p)) ≡ length p.jobs = ap length (names_are room p w) ∙ places_long p.jobs (first_job p) in
-    let named : Named text (names_of text) (suc (length p.jobs)) =
-    subst (λ t. Named t (names_of t) (suc (length p.jobs))) (sym r.writes.text) (all_named room p w) in
-    let long : length (names_of text) ≡ length p.jobs = ap (λ t. length (names_of t)) r.writes.text ∙ count in
-    (subst (λ n. Named text (names_of text) n) (sym jobs) named, omega (arith, jobs, long))
+    let named : AllNamesIn text (names_of text) × (length (names_of text) ≡ length p.jobs) =
+    subst (λ t. AllNamesIn t (names_of t) × (length (names_of t) ≡ length p.jobs)) (sym r.writes.text) (all_named room p r.writes.well_formed) in
+    (named.0, omega (arith, jobs, named.1))
