@@ -22,3 +22,7 @@ pub record NameIn (text : List ℕ) (p : NamePlace) : Type 0 where
 -- so do all names
 abbrev pub AllNamesIn : List ℕ → List NamePlace → Type 0
 AllNamesIn text places = EachIndex places (λ i. NameIn text (slice_index_or places i no_place))
+
+-- there is a place for each of n jobs but `start`
+abbrev pub Enough : List NamePlace → ℕ → Type 0
+Enough places n = n ≤ suc (length places)

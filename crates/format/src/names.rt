@@ -1,6 +1,7 @@
 // The names of a plan's jobs.
 ghost use Rattle.std.specs.Prelude.{◌≡◌, ◌≤◌, ◌↔◌, IsTrue, IsSome, IfSome, length};
-ghost use Rattle.format.specs.Names.{NameIn, AllNamesIn, name_of};
+ghost use Rattle.book.specs.Held.{held};
+ghost use Rattle.format.specs.Names.{NameIn, AllNamesIn, Enough, name_of};
 
 use crate::parts::NamePlace;
 use book::keeping::Book;
@@ -27,6 +28,7 @@ impl<'a> Names<'a> {
     pub fn new(text: &'a [u8], places: &'a [NamePlace]) -> Option<Names<'a>>
         ensures exactly { IsSome result ↔ AllNamesIn text.now places.now }
         ensures names { IfSome result (λ names. name names ≡ name_of text.now places.now) }
+        ensures places { IfSome result (λ names. names.places.now ≡ places.now) }
     {
         if places.iter().all(|place| is_in(*place, text)) {
             Some(Names { text, places })
@@ -50,9 +52,10 @@ impl<'a> Names<'a> {
     }
 }
 
-// A plan as it was read: its book, and the names of its jobs.
+// A plan as it was read: its book, and the names of its jobs, enough for all of them.
 #[derive(Clone, Copy)]
 pub struct Plan<'a> {
     pub book: &'a Book,
     pub names: Names<'a>,
+    ghost enough: { Enough names.places.now (length (held book.now).jobs) },
 }
