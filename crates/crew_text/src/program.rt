@@ -20,8 +20,9 @@ pub fn serve<R: Read + Drop, W: Write, E: Write>(
         Appends (W.contents out.old) (W.contents out.new) (codes "too many outcomes: a plan has at most 4 checks\n")
         ⊎ Appends (E.contents errors.old) (E.contents errors.new) (codes "no memory\n")) }
 {
-    let text = read_text(heap, input)?;
-    match lead(heap, text.as_slice(), words) {
+    let mut room = [0u8; 8193];
+    let text = read_text(input, &mut room)?;
+    match lead(heap, text, words) {
         Ok(page) => out.write_all(page.as_slice()),
         Err(_) => errors.write_all(b"no memory\n"),
     }

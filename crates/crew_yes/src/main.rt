@@ -2,14 +2,17 @@
 #![tactic(auto)]
 
 use crew_text::program::serve;
+use input::read_text;
 use std::{env, io};
 
 fn main(rt: HostRuntime) -> io::Result<()> {
+    // Read before the arguments are: where neither can be, it is the text that is told of.
+    let mut room = [0u8; 8193];
+    let text = read_text(rt.stdin(), &mut room)?;
     let words: Vec<String> = env::args(&rt)?.skip(1).collect(rt.alloc())?;
-    let input = rt.stdin();
     serve(
         rt.alloc(),
-        input,
+        text,
         words.as_slice(),
         &mut rt.stdout(),
         &mut rt.stderr(),
