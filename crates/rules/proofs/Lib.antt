@@ -1,6 +1,8 @@
 pub mod Asked
 pub mod Bars
+pub mod Items
 pub mod Peeling
+pub mod Pushes
 pub mod Record
 pub mod RowRules
 pub mod Steps

@@ -54,6 +54,10 @@ module _ (m : System) (sound : Sound m) (table by : List ℕ) (r x : ℕ) (l : L
       let within : (rule m r).held < length table = omega (arith, (sound.each r h).within, sound.few, g.wide) in
       omega (arith, sum_by-set (λ v. v) table (rule m r).held x 0 within)
 
+-- with more rules done the bound is no lower
+pub good_on : (m : System) (d k : ℕ) (table by : List ℕ) → d ≤ k → Good m d table by → Good m k table by
+good_on m d k table by h g = record { wide = g.wide; wide_by = g.wide_by; low = λ p. omega (arith, g.low p); under = g.under; recorded = g.recorded }
+
 -- a table that has come low again is as at the start of a round
 pub good_again : (m : System) (d : ℕ) (table by : List ℕ) → ((p : ℕ) → at table p ≤ 1382400) → Good m d table by → Good m 0 table by
 good_again m d table by low g = record { wide = g.wide; wide_by = g.wide_by; low = λ p. omega (arith, low p); under = g.under; recorded = g.recorded }

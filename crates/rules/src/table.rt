@@ -1,5 +1,5 @@
 // The table that a system collects its rules in.
-ghost use Rattle.std.specs.Prelude.{◌≡◌, List, [], ◌∷◌, ◌++◌, take};
+ghost use Rattle.std.specs.Prelude.{◌≡◌, ◌≤◌, List, [], ◌∷◌, ◌++◌, length, take};
 ghost use Rattle.rules.specs.Tables.{Adds};
 
 use crate::stored::StoredRule;
@@ -39,7 +39,8 @@ impl<R: StoredRule, const N: usize> RuleTable<R, N> {
 
     // The rules.
     pub fn rules(&self) -> &[R]
-        ensures { result.now ≡ self.now }
+        ensures all { result.now ≡ self.now }
+        ensures fits { length result.now ≤ N }
     {
         self.rules.as_slice()
     }
