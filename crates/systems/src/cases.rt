@@ -67,7 +67,8 @@ impl BookHolds<'_> {
         }
     }
 
-    // Adds the rules of each case.
+    // Adds the rules of each case. Not inlined (see `dynamic_system`).
+    #[inline(never)]
     pub(crate) fn add_cases(&self, out: &mut RowTable)
         ensures { Adds 8192 (map row_rule out.old)
             (each_below (cases (held self.now.book.now)) (case_rules (held self.now.book.now))) (map row_rule out.new) }

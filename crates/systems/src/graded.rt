@@ -1,5 +1,6 @@
 // The systems of the three grades.
-ghost use Rattle.std.specs.Prelude.{◌≡◌};
+ghost use Rattle.std.specs.Prelude.{◌≡◌, ◌*◌, length};
+ghost use Rattle.book.specs.Plain.{cases};
 ghost use Rattle.book.specs.Held.{held};
 ghost use Rattle.rules.specs.Rows.{system_by, rule_of as row_rule};
 ghost use Rattle.grades.specs.Systems.{rule_of, origins_of};
@@ -43,7 +44,16 @@ pub fn weak_system(book: &Book, case: u8) -> HoldSystem
     }
 }
 
-// The dynamic system of a book.
+// How many places a dynamic system has: one for each case and job. Not inlined (see `dynamic_system`).
+#[inline(never)]
+fn case_places(book: &Book) -> usize
+    ensures { result ≡ cases (held book.now) * length (held book.now).jobs }
+{
+    usize::from(book.cases()) * book.jobs().len()
+}
+
+// The dynamic system of a book. What loops here is not inlined: beside a loop the compiler keeps, clears and copies three tables of 8,192
+// rows where it needs one.
 pub fn dynamic_system(book: &Book) -> RowSystem
     ensures { system_by row_rule result.places result.table ≡ dynamic_system (held book.now) }
 {
@@ -51,7 +61,7 @@ pub fn dynamic_system(book: &Book) -> RowSystem
     BookHolds::of(book).add_cases(&mut table);
     add_unknown(book, &mut table);
     Collected {
-        places: usize::from(book.cases()) * book.jobs().len(),
+        places: case_places(book),
         table,
     }
 }

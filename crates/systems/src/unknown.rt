@@ -49,8 +49,8 @@ impl Pair<'_> {
         requires is { c < checks (held self.now.book.now) }
         ensures { result ≡ tells_apart (held self.now.book.now) self.now.case self.now.other c }
     {
-        self.book.done(self.case, asking(self.book, c))
-            && (self.case >> c) % 2 != (self.other >> c) % 2
+        (self.case >> c) % 2 != (self.other >> c) % 2
+            && self.book.done(self.case, asking(self.book, c))
     }
 
     // Whether the two are different cases that both do a job.
@@ -104,7 +104,8 @@ fn add_from(book: &Book, case: u8, out: &mut RowTable)
     }
 }
 
-// Adds the rules of every case by every other.
+// Adds the rules of every case by every other. Not inlined (see `dynamic_system`).
+#[inline(never)]
 pub(crate) fn add_unknown(book: &Book, out: &mut RowTable)
     ensures { Adds 8192 (map rule_of out.old) (unknown_rules (held book.now)) (map rule_of out.new) }
 {

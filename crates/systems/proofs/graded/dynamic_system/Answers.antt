@@ -1,5 +1,4 @@
-use Rattle.std.proofs.Common.{◌*◌, List, map, length, sym, ap, ◌∙◌, subst, ap₂}
-use Rattle.book.specs.declared.parts.Job.{Job}
+use Rattle.std.proofs.Common.{map, sym, subst}
 use Rattle.book.specs.declared.keeping.Book.{Book}
 use Rattle.book.specs.Plain.{cases}
 use Rattle.book.specs.Held.{held, held_sound}
@@ -15,9 +14,8 @@ pub returns : goal.returns
 returns c =
     let first = subst (λ (k : Book). Adds 8192 (map rule_of c.new-table.result) (each_below (cases (held k)) (case_rules (held k)))
     (map rule_of c.add_cases.new.out)) c.of.ensures c.add_cases.ensures in
-    let places = ap₂ ◌*◌ (c.from.ensures ∙ c.cases.ensures) (ap (λ (js : List Job). length js) c.jobs.ensures) in
     dynamic_made (held c.args.book.now) (held_sound c.args.book.now) c.new-table.result c.add_cases.new.out c.add_unknown.new.out _
-    c.new-table.ensures first c.add_unknown.ensures places
+    c.new-table.ensures first c.add_unknown.ensures c.case_places.ensures
 
 pub invariant_of-result : goal.invariant_of-result
 invariant_of-result c =
@@ -25,6 +23,5 @@ invariant_of-result c =
     let sound = held_sound c.args.book.now in
     let first = subst (λ (k : Book). Adds 8192 (map rule_of c.new-table.result) (each_below (cases (held k)) (case_rules (held k)))
     (map rule_of c.add_cases.new.out)) c.of.ensures c.add_cases.ensures in
-    let places = ap₂ ◌*◌ (c.from.ensures ∙ c.cases.ensures) (ap (λ (js : List Job). length js) c.jobs.ensures) in
-    let made = dynamic_made b sound c.new-table.result c.add_cases.new.out c.add_unknown.new.out _ c.new-table.ensures first c.add_unknown.ensures places in
+    let made = dynamic_made b sound c.new-table.result c.add_cases.new.out c.add_unknown.new.out _ c.new-table.ensures first c.add_unknown.ensures c.case_places.ensures in
     record { sound = subst Sound (sym made) (systems_sound b sound).2 }
