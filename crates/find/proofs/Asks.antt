@@ -1,13 +1,11 @@
 -- The least of what the alternatives of a rule ask, and whether one of them leads out: from what was answered of each.
 use Rattle.std.proofs.Common.{◌≡◌, ℕ, zero, suc, ◌<◌, ◌≤◌, min, ◌⊎◌, Bool, true, false, List, [], ◌∷◌, length, map, get_or, Some}
-use Rattle.std.proofs.Common.{ℤ, pos, negsuc, ◌+ℤ◌, ◌≤ℤ◌, w32, MatchBool, fold, sym, refl, ◌∙◌, subst, inl, inr, ⊎_elim, zero-add, arith}
+use Rattle.std.proofs.Common.{MatchBool, fold, sym, refl, ◌∙◌, subst, inl, inr, ⊎_elim, zero-add, arith}
 use Rattle.std.specs.List.{AllWithin, HoldsAt, range_with_len, reduce}
 use Rattle.std.proofs.lemmas.List.FromFn.{length-range_with_len, get_or-range_with_len, length-map-range_with_len, get_or-map-range_with_len}
-use Rattle.std.specs.Int.{saturate_unsigned}
 use Rattle.std.proofs.lemmas.Bool.{cases_lt}
-use Rattle.std.proofs.lemmas.Int.{ints}
 use Rattle.rules.specs.Rules.{Rule, alternative}
-use Rattle.rules.specs.Search.{In, Out, LeadsOut, LeastAsked, asked, asked_by}
+use Rattle.rules.specs.Search.{In, Out, LeadsOut, LeastAsked, asked_by}
 
 -- the least of some numbers is one of them
 record IsLeast (xs : List ℕ) (m : ℕ) : Type 0 where
@@ -70,8 +68,3 @@ leads_from_cases k inside n false e all = λ a within.
     let low : a < n = omega (arith, e, within) in
     let is = get_or-range_with_len 0 n a 0 low ∙ zero-add a in
     subst (λ b. In inside (alternative k b).place) is (all a 0 (omega arith) (omega (arith, length-range_with_len 0 n, low)))
-
--- what an alternative asks, as the code reckons it
-pub asked_is : (v : ℕ) (w : ℤ) → v ≤ 36771840 → w ≤ℤ pos 4320 → saturate_unsigned w32 (pos v +ℤ w) ≡ asked v w
-asked_is v (pos k) low high = omega (arith, ints)
-asked_is v (negsuc k) low high = omega (arith, ints)

@@ -1,12 +1,21 @@
 // Asking a rule system, and what its rules ask of a table.
-ghost use Rattle.std.specs.Prelude.{◌≡◌, ◌<◌, ◌≤◌, length};
+ghost use Rattle.std.specs.Prelude.{◌≡◌, ◌<◌, ◌≤◌, length, pos, neg_ℤ, ◌≤ℤ◌};
 ghost use Rattle.rules.specs.Rules.{SoundAlternative, rule, alternative};
-ghost use Rattle.rules.specs.Search.{asked_by, LeastAsked};
+ghost use Rattle.rules.specs.Search.{asked, asked_by, LeastAsked};
 
 use crate::tables::{PLACES, Table};
 use rules::parts::Alternative;
 use rules::system::RuleSystem;
 use std::marker::Model;
+
+// So many minutes after another, or 0 where that is before the start. No `saturating_add_signed`: it asks for the sign of the minutes, and
+// this is the innermost step of a search.
+fn shifted(from: u32, minutes: i32) -> u32
+    requires { (from ≤ 36771840) × ((neg_ℤ (pos 4320) ≤ℤ minutes) × (minutes ≤ℤ pos 4320)) }
+    ensures { result ≡ asked from minutes }
+{
+    (from as i32 + minutes).max(0) as u32
+}
 
 // A rule of a system, by a number that the system has. A contract sees the rule itself.
 #[derive(Drop)]
@@ -66,9 +75,7 @@ impl<'a, T: RuleSystem> Rule<'a, T> {
         ensures { result ≡ asked_by table.now.minutes (alternative self.now a) }
     {
         let way = self.way(a);
-        table.places[way.place]
-            .minute
-            .saturating_add_signed(way.minutes)
+        shifted(table.places[way.place].minute, way.minutes)
     }
 
     // The least that an alternative of the rule asks.

@@ -1,29 +1,37 @@
 // Marks on places: which of them bar each other.
-ghost use Rattle.std.specs.Prelude.{◌≡◌, ℕ, false, slice_index_or};
+ghost use Rattle.std.specs.Prelude.{◌≡◌, ℕ, false, length, slice_index_or};
 ghost use Rattle.rules.specs.Rules.{at};
-ghost use Rattle.rules.specs.Search.{In, Marked, LeadsOut, Peels, Closed, Ruled, Swept, FirstIn};
+ghost use Rattle.rules.specs.Search.{In, Out, Marked, LeadsOut, Peels, Closed, Ruled, Swept, FirstIn};
 
 use crate::asking::Rule;
 use crate::tables::{PLACES, Table};
 use rules::system::RuleSystem;
 
-// Whether each place is marked. The marks live for one round, so they stand apart from the table.
+// Whether each place is marked. The marks live for one round, so they stand apart from the table; a search writes them over in each.
 #[derive(Clone, Copy)]
 pub(crate) struct Marks {
     inside: [bool; PLACES],
 }
 
 impl Marks {
-    // Marks the places above 0.
-    pub(crate) fn above_zero(table: &Table) -> Marks
-        ensures { (p : ℕ) → Marked (slice_index_or result.inside p false) (at table.now.minutes p) }
+    // No place is marked.
+    pub(crate) fn none() -> Marks
+        ensures { (p : ℕ) → Out result.inside p }
+    {
+        Marks {
+            inside: [false; PLACES],
+        }
+    }
+
+    // Marks the places above 0, and no others.
+    pub(crate) fn mark_above_zero(&mut self, table: &Table)
+        ensures marks { (p : ℕ) → Marked (slice_index_or self.new.inside p false) (at table.now.minutes p) }
+        ensures wide { length self.new.inside ≡ PLACES }
     {
         // A loop: with `map` of the array a search takes several times as long.
-        let mut inside = [false; PLACES];
         for (p, place) in table.places.iter().enumerate() {
-            inside[p] = place.minute > 0;
+            self.inside[p] = place.minute > 0;
         }
-        Marks { inside }
     }
 
     // Takes the mark off each place whose rule leads out, once, and says whether there was any. Each test reads the marks as they then are,

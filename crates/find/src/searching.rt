@@ -16,8 +16,9 @@ pub(crate) fn search<T: RuleSystem>(system: &T) -> Result<Table, Barred>
         (λ b. Stuck (T.meaning system.now) b.table.by b.place) }
 {
     let mut table = Table::new();
+    let mut marks = Marks::none();
     while table.round(system) {
-        let mut marks = Marks::above_zero(&table);
+        marks.mark_above_zero(&table);
         marks.peel(system, &table);
         if let Some(place) = marks.first() {
             return Err(Barred { table, place });
