@@ -1,10 +1,11 @@
 -- Rows that are numbered one after another.
-use Rattle.std.proofs.Common.{◌≡◌, ℕ, suc, ◌+◌, ◌<◌, List, [], ◌∷◌, ◌++◌, map, length, take, get_or, refl, ap, ◌∙◌, arith}
+use Rattle.std.proofs.Common.{◌≡◌, ℕ, zero, suc, ◌+◌, ◌<◌, List, [], ◌∷◌, ◌++◌, map, length, take, get_or, slice_get, Some, refl, ap, ◌∙◌, arith}
 use Rattle.std.proofs.lemmas.List.{take_more, length-take-le}
 use Rattle.rules.specs.declared.rows.Row.{Row}
+use Rattle.rules.specs.declared.parts.Origin.TheVariants.{Bound}
 use Rattle.rules.specs.Rows.{rule_of}
 use Rattle.listed.specs.declared.numbered.Numbered.{Numbered}
-use Rattle.listed.specs.Numbered.{with_numbers}
+use Rattle.listed.specs.Numbered.{with_numbers, bound_of, numbered}
 
 push_number : (n m : ℕ) (rows : List Row) (row : Row) → m ≡ n + length rows
     → with_numbers n (rows ++ row ∷ []) ≡ with_numbers n rows ++ record { row = row; number = m } ∷ []
@@ -19,6 +20,23 @@ numbers_long n (x ∷ rows) = ap suc (numbers_long (suc n) rows)
 pub numbers_rules : (n : ℕ) (rows : List Row) → map (λ (x : Numbered). rule_of x.row) (with_numbers n rows) ≡ map rule_of rows
 numbers_rules n [] = refl
 numbers_rules n (x ∷ rows) = ap (λ t. rule_of x ∷ t) (numbers_rules (suc n) rows)
+
+-- their origins are the bounds of their numbers
+pub numbers_bounds : (n : ℕ) (rows : List Row) → map bound_of (with_numbers n rows) ≡ numbered (length rows) n
+numbers_bounds n [] = refl
+numbers_bounds n (x ∷ rows) = ap (λ t. Bound n ∷ t) (numbers_bounds (suc n) rows)
+
+pub numbered_long : (n from : ℕ) → length (numbered n from) ≡ n
+numbered_long zero from = refl
+numbered_long (suc n) from = ap suc (numbered_long n (suc from))
+
+numbered_from : (n from r k : ℕ) → r < n → k ≡ from + r → slice_get (numbered n from) r ≡ Some (Bound k)
+numbered_from zero from r k h e = absurd (omega arith)
+numbered_from (suc n) from zero k h e = let z : from ≡ k = omega arith in ap (λ i. Some (Bound i)) z
+numbered_from (suc n) from (suc r) k h e = numbered_from n (suc from) r k (omega arith) (omega arith)
+
+pub numbered_item : (n r : ℕ) → r < n → slice_get (numbered n 0) r ≡ Some (Bound r)
+numbered_item n r h = numbered_from n 0 r r h (omega arith)
 
 -- one row more
 pub one_more : (rows : List Row) (i : ℕ) (d : Row) → i < length rows

@@ -4,6 +4,8 @@
 mod listing;
 mod numbered;
 mod sound;
+mod system;
 
-pub use listing::{Listed, listed};
+pub use listing::listed;
 pub use numbered::Numbered;
+pub use system::Listed;

@@ -6,11 +6,11 @@ use rules::parts::{Alternative, Origin};
 use rules::rows::Row;
 use rules::stored::{StoredRule, Traced};
 
-// A row, and its number in the list: its rule's origin is a bound of that number.
+// A row, and its number in the list: its rule's origin is a bound of that number. A small number, since a table has 8,192 of these.
 #[derive(Clone, Copy, Debug, Default, PartialEq, Eq)]
 pub struct Numbered {
     pub row: Row,
-    pub number: usize,
+    pub number: u16,
 }
 
 impl StoredRule for Numbered {
@@ -33,6 +33,6 @@ impl Traced for Numbered {
     ghost source = { λ x. Bound x.number };
 
     fn origin(&self) -> Origin {
-        Origin::Bound(self.number)
+        Origin::Bound(usize::from(self.number))
     }
 }
