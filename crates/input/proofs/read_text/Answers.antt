@@ -8,7 +8,8 @@ loop-len-preserved g c =
     let within : c.loop-len.len ≤ length c.loop-len.room = omega (arith, few, wide) in
     let more = c.in_ok-n.ensures in
     let room = 8193 - c.loop-len.len in
-    (search rules, same_room c.loop-len.len room c.in_ok-n.n c.loop-len.room c.read.new.buf within (search rules) (omega (arith, few, wide)) ∙ wide, read_more c.loop-len.len room c.in_ok-n.n c.loop-len.room c.read.new.buf within _ _ _ more.bound.0 came more.bytes.0)
+    let wide_still = same_room c.loop-len.len room c.in_ok-n.n c.loop-len.room c.read.new.buf within (search rules) (omega (arith, few, wide)) ∙ wide in
+    (search rules, wide_still, read_more c.loop-len.len room c.in_ok-n.n c.loop-len.room c.read.new.buf within _ _ _ more.bound.0 came more.bytes.0)
 
 pub returns-in-0-clause-front : goal.returns-in-0-clause-front
 returns-in-0-clause-front g c =

@@ -23,5 +23,6 @@ invariant_of-result c =
     let sound = held_sound c.args.book.now in
     let first = subst (λ (k : Book). Adds 8192 (map rule_of c.new-table.result) (each_below (cases (held k)) (case_rules (held k)))
     (map rule_of c.add_cases.new.out)) c.of.ensures c.add_cases.ensures in
-    let made = dynamic_made b sound c.new-table.result c.add_cases.new.out c.add_unknown.new.out _ c.new-table.ensures first c.add_unknown.ensures c.case_places.ensures in
+    let made = dynamic_made b sound c.new-table.result c.add_cases.new.out c.add_unknown.new.out _
+    c.new-table.ensures first c.add_unknown.ensures c.case_places.ensures in
     record { sound = subst Sound (sym made) (systems_sound b sound).2 }
